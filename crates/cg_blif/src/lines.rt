@@ -18,6 +18,141 @@ use std::alloc::AllocError;
 use std::marker::Model;
 use std::simd::prelude::*;
 
+/// The logical lines that are still to be read; those without words are passed over.
+///
+/// Contracts see the lines left, each with its words and the number of its first physical line.
+#[derive(Drop)]
+pub struct LogicalLines<'a> {
+    physical: PhysicalLines<'a>,
+}
+
+impl<'a> Model for LogicalLines<'a> {
+    ghost use Rattle.std.specs.Prelude.{List};
+    ghost use Rattle.cg_text.specs.declared.lines.Line.{Line};
+    ghost use Rattle.cg_blif_text.specs.LogicalLines.{logical_lines, word_lines};
+
+    ghost Value = { List Line };
+
+    ghost view = { λ s. word_lines (logical_lines s.physical.number s.physical.left) };
+}
+
+impl<'a> LogicalLines<'a> {
+    ghost use Rattle.cg_blif_text.specs.LogicalLines.{text_lines};
+
+    /// All logical lines of a text.
+    pub fn new(text: &'a [u8]) -> Self
+        ensures { result ≡ text_lines text.entry.now }
+    {
+        LogicalLines {
+            physical: PhysicalLines::new(text),
+        }
+    }
+
+    /// Reads the words of the next line, in place of those that are there, and answers the number of the line; or `None`
+    /// behind the last line. `BadLine` where a word of the line ends in `\`.
+    pub fn next_line(&mut self, words: &mut Vec<Word<'a>>) -> Result<Option<u64>, BlifFault>
+        ensures line { IfOk result (λ number. MatchOption number ((self.old ≡ []) × (self.new ≡ []))
+            (λ number. self.old ≡ record { number = number; words = words.new.items } ∷ self.new)) }
+        ensures named { OnOk result (list_all is_name words.new.items ≡ true) }
+        ensures bad { IfErr result (IsUnnamedLine self.old) }
+    {
+        words.clear();
+        let mut number = self.physical.number();
+        'lines: while let Some(line) = self.physical.next_line() {
+            let line = bared(line);
+            if !push_words(words, unjoined(line))? {
+                return Err(BlifFault::BadLine(number));
+            }
+            if !is_joined(line) {
+                if !words.is_empty() {
+                    return Ok(Some(number));
+                }
+                number = self.physical.number();
+            }
+        }
+        if words.is_empty() {
+            return Ok(None);
+        }
+        Ok(Some(number))
+    }
+}
+
+/// Puts the words of a line behind these, up to the first that is no name; false where there is one.
+fn push_words<'a>(words: &mut Vec<Word<'a>>, line: &'a [u8]) -> Result<bool, AllocError>
+    requires named { list_all is_name words.old.items ≡ true }
+    requires read { AllPass is_read line.now }
+    ensures { IfOk result (λ named. PushedWords words.old.items (words_in line.entry.now) words.new.items named) }
+{
+    let mut rest = LineWords::new(line);
+    'words: while let Some(word) = rest.next_word() {
+        if is_joined(word) {
+            return Ok(false);
+        }
+        words.push(Word::new(word))?;
+    }
+    Ok(true)
+}
+
+/// The words of a line that are still to be read. Contracts see the list of their bytes.
+#[derive(Drop)]
+struct LineWords<'a> {
+    rest: &'a [u8],
+}
+
+impl<'a> Model for LineWords<'a> {
+    ghost use Rattle.std.specs.Prelude.{List, ℕ};
+    ghost use Rattle.std.specs.List.{AllPass};
+    ghost use Rattle.cg_blif.specs.Joining.{words_in};
+    ghost use Rattle.cg_blif.specs.Physical.{is_read};
+
+    ghost Value = { List (List ℕ) };
+
+    ghost view = { λ s. words_in s.rest.now };
+
+    ghost invariant = { λ s. AllPass is_read s.rest.now };
+}
+
+impl<'a> LineWords<'a> {
+    /// All words of a line.
+    fn new(line: &'a [u8]) -> Self
+        requires { AllPass is_read line.now }
+        ensures { result ≡ words_in line.entry.now }
+    {
+        LineWords { rest: line }
+    }
+
+    /// The next word, which is a name unless it ends in `\`.
+    fn next_word(&mut self) -> Option<&'a [u8]>
+        ensures word { MatchOption result ((self.old ≡ []) × (self.new ≡ [])) (λ word. self.old ≡ word.now ∷ self.new) }
+        ensures named { IfSome result (λ word. is_name word.now ≡ not (is_joined word.now)) }
+    {
+        'pieces: while !self.rest.is_empty() {
+            let (piece, rest) = cut_word(self.rest);
+            self.rest = rest;
+            if !piece.is_empty() {
+                return Some(piece);
+            }
+        }
+        None
+    }
+}
+
+/// What stands before the first blank of a line that is not empty, and what stands behind it.
+fn cut_word<'a>(line: &'a [u8]) -> (&'a [u8], &'a [u8])
+    requires some { 0 < length line.now }
+    requires read { AllPass is_read line.now }
+    ensures cut { pieces (is_blank Controls) line.entry.now ≡ result.0.now ∷ pieces (is_blank Controls) result.1.now }
+    ensures shorter { length result.1.now < length line.entry.now }
+    ensures word { AllPass is_name_byte result.0.now }
+    ensures rest { AllPass is_read result.1.now }
+{
+    let len = first_blank(line);
+    if len == line.len() {
+        return (line, &line[len..]);
+    }
+    (&line[..len], &line[len + 1..])
+}
+
 /// The physical lines that are still to be read.
 ///
 /// Contracts see the number of the next one, and the lines.
@@ -144,141 +279,6 @@ fn unjoined<'a>(line: &'a [u8]) -> &'a [u8]
         return &line[..line.len() - 1];
     }
     line
-}
-
-/// The words of a line that are still to be read. Contracts see the list of their bytes.
-#[derive(Drop)]
-struct LineWords<'a> {
-    rest: &'a [u8],
-}
-
-impl<'a> Model for LineWords<'a> {
-    ghost use Rattle.std.specs.Prelude.{List, ℕ};
-    ghost use Rattle.std.specs.List.{AllPass};
-    ghost use Rattle.cg_blif.specs.Joining.{words_in};
-    ghost use Rattle.cg_blif.specs.Physical.{is_read};
-
-    ghost Value = { List (List ℕ) };
-
-    ghost view = { λ s. words_in s.rest.now };
-
-    ghost invariant = { λ s. AllPass is_read s.rest.now };
-}
-
-impl<'a> LineWords<'a> {
-    /// All words of a line.
-    fn new(line: &'a [u8]) -> Self
-        requires { AllPass is_read line.now }
-        ensures { result ≡ words_in line.entry.now }
-    {
-        LineWords { rest: line }
-    }
-
-    /// The next word, which is a name unless it ends in `\`.
-    fn next_word(&mut self) -> Option<&'a [u8]>
-        ensures word { MatchOption result ((self.old ≡ []) × (self.new ≡ [])) (λ word. self.old ≡ word.now ∷ self.new) }
-        ensures named { IfSome result (λ word. is_name word.now ≡ not (is_joined word.now)) }
-    {
-        'pieces: while !self.rest.is_empty() {
-            let (piece, rest) = cut_word(self.rest);
-            self.rest = rest;
-            if !piece.is_empty() {
-                return Some(piece);
-            }
-        }
-        None
-    }
-}
-
-/// What stands before the first blank of a line that is not empty, and what stands behind it.
-fn cut_word<'a>(line: &'a [u8]) -> (&'a [u8], &'a [u8])
-    requires some { 0 < length line.now }
-    requires read { AllPass is_read line.now }
-    ensures cut { pieces (is_blank Controls) line.entry.now ≡ result.0.now ∷ pieces (is_blank Controls) result.1.now }
-    ensures shorter { length result.1.now < length line.entry.now }
-    ensures word { AllPass is_name_byte result.0.now }
-    ensures rest { AllPass is_read result.1.now }
-{
-    let len = first_blank(line);
-    if len == line.len() {
-        return (line, &line[len..]);
-    }
-    (&line[..len], &line[len + 1..])
-}
-
-/// The logical lines that are still to be read; those without words are passed over.
-///
-/// Contracts see the lines left, each with its words and the number of its first physical line.
-#[derive(Drop)]
-pub struct LogicalLines<'a> {
-    physical: PhysicalLines<'a>,
-}
-
-impl<'a> Model for LogicalLines<'a> {
-    ghost use Rattle.std.specs.Prelude.{List};
-    ghost use Rattle.cg_text.specs.declared.lines.Line.{Line};
-    ghost use Rattle.cg_blif_text.specs.LogicalLines.{logical_lines, word_lines};
-
-    ghost Value = { List Line };
-
-    ghost view = { λ s. word_lines (logical_lines s.physical.number s.physical.left) };
-}
-
-impl<'a> LogicalLines<'a> {
-    ghost use Rattle.cg_blif_text.specs.LogicalLines.{text_lines};
-
-    /// All logical lines of a text.
-    pub fn new(text: &'a [u8]) -> Self
-        ensures { result ≡ text_lines text.entry.now }
-    {
-        LogicalLines {
-            physical: PhysicalLines::new(text),
-        }
-    }
-
-    /// Reads the words of the next line, in place of those that are there, and answers the number of the line; or `None`
-    /// behind the last line. `BadLine` where a word of the line ends in `\`.
-    pub fn next_line(&mut self, words: &mut Vec<Word<'a>>) -> Result<Option<u64>, BlifFault>
-        ensures line { IfOk result (λ number. MatchOption number ((self.old ≡ []) × (self.new ≡ []))
-            (λ number. self.old ≡ record { number = number; words = words.new.items } ∷ self.new)) }
-        ensures named { OnOk result (list_all is_name words.new.items ≡ true) }
-        ensures bad { IfErr result (IsUnnamedLine self.old) }
-    {
-        words.clear();
-        let mut number = self.physical.number();
-        'lines: while let Some(line) = self.physical.next_line() {
-            let line = bared(line);
-            if !push_words(words, unjoined(line))? {
-                return Err(BlifFault::BadLine(number));
-            }
-            if !is_joined(line) {
-                if !words.is_empty() {
-                    return Ok(Some(number));
-                }
-                number = self.physical.number();
-            }
-        }
-        if words.is_empty() {
-            return Ok(None);
-        }
-        Ok(Some(number))
-    }
-}
-
-/// Puts the words of a line behind these, up to the first that is no name; false where there is one.
-fn push_words<'a>(words: &mut Vec<Word<'a>>, line: &'a [u8]) -> Result<bool, AllocError>
-    requires named { list_all is_name words.old.items ≡ true }
-    requires read { AllPass is_read line.now }
-    ensures { IfOk result (λ named. PushedWords words.old.items (words_in line.entry.now) words.new.items named) }
-{
-    let mut rest = LineWords::new(line);
-    'words: while let Some(word) = rest.next_word() {
-        if is_joined(word) {
-            return Ok(false);
-        }
-        words.push(Word::new(word))?;
-    }
-    Ok(true)
 }
 
 /// How many bytes are looked at together.

@@ -2,9 +2,7 @@
 //!
 //! A netlist goes in; its canonical text comes out: one text for each netlist, and of equal netlists the same.
 //!
-//! The modules, in the order in which data flows through them:
-//!
-//! `text` has it part by part: what the line of each part says, and a statement as a line.
+//! The module `text` has it part by part: what the line of each part says, a statement as a line, and the rows of a cover.
 #![tactic(auto)]
 
 mod text;

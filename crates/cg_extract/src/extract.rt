@@ -105,6 +105,39 @@ fn lift(
     Ok(enables)
 }
 
+/// Takes a gating cell: its enable is put beside its output net.
+fn take(
+    netlist: &Netlist,
+    machine: &mut Machine,
+    enables: &mut [Option<NetId>],
+    id: GateClockId,
+) -> Result<(), AllocError>
+    requires { CanTake netlist.now machine.old enables.old id }
+    ensures { IfOk result (λ _. IsTaken netlist.now machine.old enables.old id machine.new enables.new) }
+{
+    let gater = netlist.gater(id);
+    let parent = enables[gater.clock.number() as usize];
+    let enable = chained(machine, parent, number(netlist, gater.enable))?;
+    enables[gater.output.number() as usize] = Some(enable);
+    Ok(())
+}
+
+/// The net that enables a gating cell: its own enable net, and where a gating cell drives its clock pin the and of that one's
+/// enable and its own.
+fn chained(machine: &mut Machine, parent: Option<NetId>, own: NetId) -> Result<NetId, AllocError>
+    requires own { IsNet machine.old own }
+    requires parent { (net : ℕ) → parent ≡ Some net → IsNet machine.old net }
+    requires room { length machine.old.circuit.names < MOST_NETS }
+    ensures { IfOk result (λ net. record { machine = machine.new; net = net } ≡ chained machine.old parent own) }
+{
+    let Some(parent) = parent else {
+        return Ok(own);
+    };
+    machine
+        .add_gate(FitKind::And2, &[parent, own])
+        .map_err(|_| AllocError)
+}
+
 /// Gives each register the enable that stands beside its clock net, if one does.
 fn set_enables(netlist: &Netlist, machine: &mut Machine, enables: &[Option<NetId>])
     requires nets { (net enable : ℕ) → entry_at enables.now net ≡ Some enable → IsNet machine.old enable }
@@ -131,37 +164,73 @@ fn set_enable(machine: &mut Machine, reg: RegId, enable: Option<NetId>)
     }
 }
 
-/// The net that enables a gating cell: its own enable net, and where a gating cell drives its clock pin the and of that one's
-/// enable and its own.
-fn chained(machine: &mut Machine, parent: Option<NetId>, own: NetId) -> Result<NetId, AllocError>
-    requires own { IsNet machine.old own }
-    requires parent { (net : ℕ) → parent ≡ Some net → IsNet machine.old net }
-    requires room { length machine.old.circuit.names < MOST_NETS }
-    ensures { IfOk result (λ net. record { machine = machine.new; net = net } ≡ chained machine.old parent own) }
+/// For each net of the machine the net of the netlist that it stands for, and nothing for an added one.
+pub fn origins(
+    alloc: Global,
+    netlist: &Netlist,
+    machine: &Machine,
+) -> Result<Vec<Option<NetId>>, AllocError>
+    requires { length (kept_nets netlist.now) ≤ length machine.now.circuit.names }
+    ensures { IfOk result (λ nets. nets.items ≡ origins netlist.now machine.now) }
 {
-    let Some(parent) = parent else {
-        return Ok(own);
-    };
-    machine
-        .add_gate(FitKind::And2, &[parent, own])
-        .map_err(|_| AllocError)
+    let _netlist = machine.netlist();
+    let mut nets = Vec::with_capacity(alloc, machine.nets() as usize)?;
+    for number in 0..machine.nets() {
+        nets.push(origin(netlist, number))?;
+    }
+    Ok(nets)
 }
 
-/// Takes a gating cell: its enable is put beside its output net.
-fn take(
-    netlist: &Netlist,
-    machine: &mut Machine,
-    enables: &mut [Option<NetId>],
-    id: GateClockId,
-) -> Result<(), AllocError>
-    requires { CanTake netlist.now machine.old enables.old id }
-    ensures { IfOk result (λ _. IsTaken netlist.now machine.old enables.old id machine.new enables.new) }
+/// The number of a net that is kept: the outputs of gating cells stand side by side in net order, and those behind them move up.
+pub fn number(netlist: &Netlist, net: NetId) -> NetId
+    requires { is_in (kept_nets netlist.now) net ≡ true }
+    ensures { result ≡ number_of netlist.now net }
 {
-    let gater = netlist.gater(id);
-    let parent = enables[gater.clock.number() as usize];
-    let enable = chained(machine, parent, number(netlist, gater.enable))?;
-    enables[gater.output.number() as usize] = Some(enable);
-    Ok(())
+    let gaters = netlist.gaters();
+    if net.number() < first_gater_output(netlist) {
+        net
+    } else {
+        NetId::new(net.number() - gaters)
+    }
+}
+
+/// The net that has this number, if one does.
+pub(crate) fn origin(netlist: &Netlist, number: u32) -> Option<NetId>
+    requires { number < 2 ^ 31 }
+    ensures { result ≡ slice_get (kept_nets netlist.now) number }
+{
+    let net = moved_back(netlist, number);
+    if net < netlist.nets() {
+        Some(NetId::new(net))
+    } else {
+        None
+    }
+}
+
+/// The net that has this number, where one has it.
+fn moved_back(netlist: &Netlist, number: u32) -> u32
+    requires { number < 2 ^ 31 }
+    ensures netlist { IsNetlist netlist.now }
+    ensures low { number < slice_index_or (gater_outputs netlist.now) 0 0 → result ≡ number }
+    ensures high { slice_index_or (gater_outputs netlist.now) 0 0 ≤ number → result ≡ number + length netlist.now.gaters }
+{
+    let gaters = netlist.gaters();
+    if number < first_gater_output(netlist) {
+        number
+    } else {
+        number + gaters
+    }
+}
+
+/// The output of the first gating cell, or 0 where there is none.
+fn first_gater_output(netlist: &Netlist) -> u32
+    ensures { result ≡ slice_index_or (gater_outputs netlist.now) 0 0 }
+{
+    if netlist.gaters() == 0 {
+        0
+    } else {
+        netlist.gater(GateClockId::new(0)).output.number()
+    }
 }
 
 /// The netlist without its gating cells: its logic cells and registers in their order, every register on the clock, and all its
@@ -400,73 +469,4 @@ fn nets_below(alloc: Global, count: u32) -> Result<Vec<NetId>, AllocError>
         nets.push(NetId::new(number))?;
     }
     Ok(nets)
-}
-
-/// For each net of the machine the net of the netlist that it stands for, and nothing for an added one.
-pub fn origins(
-    alloc: Global,
-    netlist: &Netlist,
-    machine: &Machine,
-) -> Result<Vec<Option<NetId>>, AllocError>
-    requires { length (kept_nets netlist.now) ≤ length machine.now.circuit.names }
-    ensures { IfOk result (λ nets. nets.items ≡ origins netlist.now machine.now) }
-{
-    let _netlist = machine.netlist();
-    let mut nets = Vec::with_capacity(alloc, machine.nets() as usize)?;
-    for number in 0..machine.nets() {
-        nets.push(origin(netlist, number))?;
-    }
-    Ok(nets)
-}
-
-/// The number of a net that is kept: the outputs of gating cells stand side by side in net order, and those behind them move up.
-pub fn number(netlist: &Netlist, net: NetId) -> NetId
-    requires { is_in (kept_nets netlist.now) net ≡ true }
-    ensures { result ≡ number_of netlist.now net }
-{
-    let gaters = netlist.gaters();
-    if net.number() < first_gater_output(netlist) {
-        net
-    } else {
-        NetId::new(net.number() - gaters)
-    }
-}
-
-/// The net that has this number, if one does.
-pub(crate) fn origin(netlist: &Netlist, number: u32) -> Option<NetId>
-    requires { number < 2 ^ 31 }
-    ensures { result ≡ slice_get (kept_nets netlist.now) number }
-{
-    let net = moved_back(netlist, number);
-    if net < netlist.nets() {
-        Some(NetId::new(net))
-    } else {
-        None
-    }
-}
-
-/// The net that has this number, where one has it.
-fn moved_back(netlist: &Netlist, number: u32) -> u32
-    requires { number < 2 ^ 31 }
-    ensures netlist { IsNetlist netlist.now }
-    ensures low { number < slice_index_or (gater_outputs netlist.now) 0 0 → result ≡ number }
-    ensures high { slice_index_or (gater_outputs netlist.now) 0 0 ≤ number → result ≡ number + length netlist.now.gaters }
-{
-    let gaters = netlist.gaters();
-    if number < first_gater_output(netlist) {
-        number
-    } else {
-        number + gaters
-    }
-}
-
-/// The output of the first gating cell, or 0 where there is none.
-fn first_gater_output(netlist: &Netlist) -> u32
-    ensures { result ≡ slice_index_or (gater_outputs netlist.now) 0 0 }
-{
-    if netlist.gaters() == 0 {
-        0
-    } else {
-        netlist.gater(GateClockId::new(0)).output.number()
-    }
 }

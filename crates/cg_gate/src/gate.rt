@@ -1,6 +1,6 @@
 //! A netlist is gated, and the texts that this gives.
 
-ghost use Rattle.std.specs.Prelude.{◌≡◌, true, None, Some, is_some, IfOk, IfErr, OnOk, [], length, unwrap_or};
+ghost use Rattle.std.specs.Prelude.{◌≡◌, true, None, Some, is_some, IfOk, IfErr, OnOk, length};
 ghost use Rattle.std.specs.Option.{option_map, option_copied};
 ghost use Rattle.cg_gate.specs.Gating.{GivesDemo, GivesGated, SaysDemo, TellsGated, gated_data, AreTexts, told_outcomes, where_asked};
 ghost use Rattle.cg_gate.specs.Headline.{Headline};
@@ -18,7 +18,7 @@ use crate::fault::GateFault;
 use crate::planning::{Gated, gate_netlist};
 use crate::playing::{edges_of, play_both};
 use crate::registers::registers_asked;
-use crate::request::Request;
+use crate::request::{Request, asked_hints};
 use cg_blif_out::write_blif;
 use cg_hint_laws::hint::Hint;
 use cg_hint_laws::outcome::HintOutcome;
@@ -32,6 +32,28 @@ use cg_report::watcher::Watcher;
 use cg_stimulus::stimulus::Stimulus;
 use cg_verilog_out::write_verilog;
 use std::alloc::{AllocError, Global};
+
+/// The texts that gating gives.
+#[derive(Debug, Drop)]
+pub struct Texts {
+    /// The written netlist.
+    pub out: Seq<u8>,
+
+    /// The proof file, where it is asked for.
+    pub proof: Option<Seq<u8>>,
+
+    /// The report, where it is asked for.
+    pub report: Option<Seq<u8>>,
+
+    /// The written netlist as a Verilog text, where it is asked for.
+    pub verilog: Option<Seq<u8>>,
+
+    /// Why each register is gated, or why it is not, where it is asked for.
+    pub registers: Option<Seq<u8>>,
+
+    /// What is said.
+    pub said: Seq<u8>,
+}
 
 /// Gates a netlist: hints are tried, stages are planned on what they leave, and the plan's machine is written with a gating cell for
 /// each enable.
@@ -128,28 +150,6 @@ fn demo_said(
     Ok(Seq::from_vec(demo_text(alloc, size, &gated.plan, gates, edges)?))
 }
 
-/// The texts that gating gives.
-#[derive(Debug, Drop)]
-pub struct Texts {
-    /// The written netlist.
-    pub out: Seq<u8>,
-
-    /// The proof file, where it is asked for.
-    pub proof: Option<Seq<u8>>,
-
-    /// The report, where it is asked for.
-    pub report: Option<Seq<u8>>,
-
-    /// The written netlist as a Verilog text, where it is asked for.
-    pub verilog: Option<Seq<u8>>,
-
-    /// Why each register is gated, or why it is not, where it is asked for.
-    pub registers: Option<Seq<u8>>,
-
-    /// What is said.
-    pub said: Seq<u8>,
-}
-
 /// The texts of a netlist that was gated, whose certificates keep to the bounds of their formats, with its Verilog text.
 fn write_texts(
     alloc: Global,
@@ -203,16 +203,6 @@ fn told_outcomes<'a>(
     match asked {
         None => None,
         Some(_) => Some(outcomes),
-    }
-}
-
-/// The hints, none where none are asked for.
-pub(crate) fn asked_hints<'a>(asked: Option<&'a Seq<Hint>>) -> &'a [Hint]
-    ensures { result.now ≡ unwrap_or (option_copied asked.entry) [] }
-{
-    match asked {
-        None => &[],
-        Some(hints) => hints.as_slice(),
     }
 }
 

@@ -49,11 +49,31 @@ pub struct Gated {
     pub netlist: Netlist,
 }
 
+/// Hints that were tried before a plan.
+#[derive(Drop)]
+pub struct TriedHints {
+    /// What came of each, in order.
+    pub outcomes: Seq<HintOutcome>,
+
+    /// A proof of the claim of each register of each inserted hint, in the order of hints and registers.
+    pub certificates: Seq<HintCertificate>,
+}
+
 /// Hints that were tried, and the plan that begins with what they leave.
 #[derive(Drop)]
 struct Planned {
     pub hints: TriedHints,
     pub plan: Plan,
+}
+
+/// What hints leave of the machine of a netlist, and what came of them.
+#[derive(Drop)]
+struct Begun {
+    /// The machine with which the plan begins.
+    pub machine: Machine,
+
+    /// The hints that were tried.
+    pub hints: TriedHints,
 }
 
 /// Tries the hints on the machine of a netlist, to whose enables its gating cells are lifted, plans the machine that they leave, and
@@ -85,25 +105,6 @@ pub fn gate_netlist(
             Err(fault)
         }
     }
-}
-
-/// A plan behind hints, and the netlist that its machine is written as.
-fn written(planned: Planned, netlist: Netlist) -> Gated
-    ensures { result ≡ record { hints = planned.hints; plan = planned.plan; netlist = netlist } }
-{
-    Gated {
-        hints: planned.hints,
-        plan: planned.plan,
-        netlist,
-    }
-}
-
-/// The netlist that a plan's machine is written as.
-fn write_plan(alloc: Global, plan: &Plan, request: &Request<'_>) -> Result<Netlist, AddFault>
-    requires { CanInsert request.now.library request.now.test plan.now.machine }
-    ensures { OrNoMemory NoMemory (λ netlist. netlist) result (insertion request.now.library request.now.test plan.now.machine) }
-{
-    insert(alloc, &plan.machine, request.library, request.test)
 }
 
 /// A request holds a library, a name of the test input and a stimulus.
@@ -152,6 +153,15 @@ fn plan_netlist(
     };
     let begun = try_hints(alloc, netlist, machine, request)?;
     plan_hinted(alloc, netlist, begun, request, progress)
+}
+
+/// The machine of a netlist none of whose gating cells is refused.
+fn lift(alloc: Global, netlist: &Netlist, request: &Request<'_>) -> Result<Machine, AllocError>
+    requires { MayGate request.now netlist.now }
+    ensures { IfOk result (λ machine. machine ≡ lifted netlist.now request.now.prefix) }
+{
+    let made = extract(alloc, netlist, request.prefix)?;
+    Ok(made.machine)
 }
 
 /// Hints that were tried on the machine of a netlist, and the plan that begins with what they leave.
@@ -210,15 +220,6 @@ fn plan_begun(
     }
 }
 
-/// The machine of a netlist none of whose gating cells is refused.
-fn lift(alloc: Global, netlist: &Netlist, request: &Request<'_>) -> Result<Machine, AllocError>
-    requires { MayGate request.now netlist.now }
-    ensures { IfOk result (λ machine. machine ≡ lifted netlist.now request.now.prefix) }
-{
-    let made = extract(alloc, netlist, request.prefix)?;
-    Ok(made.machine)
-}
-
 /// The plan of a machine with these counts.
 fn plan_machine(
     alloc: Global,
@@ -242,24 +243,23 @@ fn plan_machine(
     )
 }
 
-/// Hints that were tried before a plan.
-#[derive(Drop)]
-pub struct TriedHints {
-    /// What came of each, in order.
-    pub outcomes: Seq<HintOutcome>,
-
-    /// A proof of the claim of each register of each inserted hint, in the order of hints and registers.
-    pub certificates: Seq<HintCertificate>,
+/// The netlist that a plan's machine is written as.
+fn write_plan(alloc: Global, plan: &Plan, request: &Request<'_>) -> Result<Netlist, AddFault>
+    requires { CanInsert request.now.library request.now.test plan.now.machine }
+    ensures { OrNoMemory NoMemory (λ netlist. netlist) result (insertion request.now.library request.now.test plan.now.machine) }
+{
+    insert(alloc, &plan.machine, request.library, request.test)
 }
 
-/// What hints leave of the machine of a netlist, and what came of them.
-#[derive(Drop)]
-struct Begun {
-    /// The machine with which the plan begins.
-    pub machine: Machine,
-
-    /// The hints that were tried.
-    pub hints: TriedHints,
+/// A plan behind hints, and the netlist that its machine is written as.
+fn written(planned: Planned, netlist: Netlist) -> Gated
+    ensures { result ≡ record { hints = planned.hints; plan = planned.plan; netlist = netlist } }
+{
+    Gated {
+        hints: planned.hints,
+        plan: planned.plan,
+        netlist,
+    }
 }
 
 /// Tries the hints of a request on the machine of the netlist, one after another.

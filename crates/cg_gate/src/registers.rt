@@ -2,16 +2,15 @@
 
 ghost use Rattle.std.specs.Prelude.{◌≡◌, Option, Some, IfOk};
 ghost use Rattle.std.specs.Option.{option_copied};
-ghost use Rattle.cg_gate.specs.Gating.{TellsRegisters, gated_data, where_asked};
+ghost use Rattle.cg_gate.specs.Gating.{TellsRegisters, gated_data};
 ghost use Rattle.cg_plan.specs.Planning.{told};
 ghost use Rattle.cg_register_text.specs.Rises.{FewRises, RisesWhere};
 ghost use Rattle.cg_register_text.specs.Words.{IsToldOf, registers_text};
 ghost use Rattle.cg_register_text.specs.declared.rises.BothRises.{BothRises};
 ghost use Rattle.cg_stimulus.specs.Inputs.{IsFor, Rows};
 
-use crate::gate::asked_hints;
 use crate::planning::Gated;
-use crate::request::Request;
+use crate::request::{Request, asked_hints};
 use cg_list::Seq;
 use cg_netlist::netlist::Netlist;
 use cg_register_text::rises::{BothRises, both_rises};

@@ -1,5 +1,8 @@
 //! What gating is asked for.
 
+ghost use Rattle.std.specs.Prelude.{◌≡◌, [], unwrap_or};
+ghost use Rattle.std.specs.Option.{option_copied};
+
 use cg_cell::library::Library;
 use cg_cell::name::Name;
 use cg_hint_laws::hint::Hint;
@@ -60,4 +63,14 @@ impl<'a> Model for Request<'a> {
       verilog = r.verilog;
       registers = r.registers;
     } };
+}
+
+/// The hints, none where none are asked for.
+pub(crate) fn asked_hints<'a>(asked: Option<&'a Seq<Hint>>) -> &'a [Hint]
+    ensures { result.now ≡ unwrap_or (option_copied asked.entry) [] }
+{
+    match asked {
+        None => &[],
+        Some(hints) => hints.as_slice(),
+    }
 }

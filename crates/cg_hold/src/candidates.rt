@@ -1,6 +1,6 @@
 //! The registers that took each literal, and the hold stages of them.
 
-ghost use Rattle.std.specs.Prelude.{◌≡◌, ◌<◌, ◌*◌, ◌++◌, [], length, IfOk, OnOk, ◌≤◌, ◌+◌, ◌^◌, ◌∷◌, ◌⊎◌, ℕ, true, replicate, slice_index_or, slice_set, is_none, IfErr};
+ghost use Rattle.std.specs.Prelude.{◌≡◌, ◌<◌, ◌*◌, ◌++◌, [], length, IfOk, OnOk, ◌≤◌, ◌+◌, ◌^◌, ◌∷◌, ◌⊎◌, true, replicate, slice_index_or, slice_set, is_none, IfErr};
 ghost use Rattle.std.specs.List.{cons_option, filter_map, range_with_len};
 ghost use Rattle.std.specs.Option.{option_copied};
 ghost use Rattle.cg_hold.specs.HoldAnswer.{hold_answer};
@@ -64,68 +64,6 @@ pub fn candidates(
     let wide = chosen.wide;
     let stages = stages(alloc, machine.nets(), &chosen.lists)?;
     Ok(HoldFound { stages, wide })
-}
-
-/// The stages of the registers that took each literal of `nets` nets, net by net, plain before inverted.
-fn stages(alloc: Global, nets: u32, lists: &[Seq<RegId>]) -> Result<Seq<Stage>, AllocError>
-    requires { length lists.now ≡ 2 * nets }
-    ensures { IfOk result (λ stages. stages ≡ filter_map (stage_at lists.now) (both_literals (range_with_len 0 nets))) }
-{
-    let mut stages = Seq::new(alloc);
-    for number in 0..nets {
-        let net = NetId::new(number);
-        push_stage(
-            alloc,
-            NetLit {
-                net,
-                inverted: false,
-            },
-            lists,
-            &mut stages,
-        )?;
-        push_stage(
-            alloc,
-            NetLit {
-                net,
-                inverted: true,
-            },
-            lists,
-            &mut stages,
-        )?;
-    }
-    Ok(stages)
-}
-
-/// Puts the stage of the registers that took a literal behind the others, where there are some.
-fn push_stage(
-    alloc: Global,
-    literal: NetLit,
-    lists: &[Seq<RegId>],
-    stages: &mut Seq<Stage>,
-) -> Result<(), AllocError>
-    requires { literal_place literal < length lists.now }
-    ensures { OnOk result (stages.new ≡ stages.old ++ cons_option (stage_at lists.now literal) []) }
-{
-    let regs = &lists[place_of(literal)];
-    if !regs.is_empty() {
-        stages.push(stage(alloc, literal, regs.as_slice())?)?;
-    }
-    Ok(())
-}
-
-/// The hold stage of registers that took a literal.
-fn stage(alloc: Global, literal: NetLit, regs: &[RegId]) -> Result<Stage, AllocError>
-    ensures { IfOk result (λ stage. stage ≡ hold_stage literal regs.now) }
-{
-    let mut enable = Seq::new(alloc);
-    enable.push(literal)?;
-    Ok(Stage {
-        kind: StageKind::Hold,
-        enable,
-        regs: Seq::from_vec(Vec::from_slice(alloc, regs)?),
-        own: None,
-        guards: Seq::new(alloc),
-    })
 }
 
 /// What came of registers.
@@ -283,4 +221,66 @@ fn place_of(literal: NetLit) -> usize
 {
     let place = 2 * literal.net.number() as usize;
     if literal.inverted { place + 1 } else { place }
+}
+
+/// The stages of the registers that took each literal of `nets` nets, net by net, plain before inverted.
+fn stages(alloc: Global, nets: u32, lists: &[Seq<RegId>]) -> Result<Seq<Stage>, AllocError>
+    requires { length lists.now ≡ 2 * nets }
+    ensures { IfOk result (λ stages. stages ≡ filter_map (stage_at lists.now) (both_literals (range_with_len 0 nets))) }
+{
+    let mut stages = Seq::new(alloc);
+    for number in 0..nets {
+        let net = NetId::new(number);
+        push_stage(
+            alloc,
+            NetLit {
+                net,
+                inverted: false,
+            },
+            lists,
+            &mut stages,
+        )?;
+        push_stage(
+            alloc,
+            NetLit {
+                net,
+                inverted: true,
+            },
+            lists,
+            &mut stages,
+        )?;
+    }
+    Ok(stages)
+}
+
+/// Puts the stage of the registers that took a literal behind the others, where there are some.
+fn push_stage(
+    alloc: Global,
+    literal: NetLit,
+    lists: &[Seq<RegId>],
+    stages: &mut Seq<Stage>,
+) -> Result<(), AllocError>
+    requires { literal_place literal < length lists.now }
+    ensures { OnOk result (stages.new ≡ stages.old ++ cons_option (stage_at lists.now literal) []) }
+{
+    let regs = &lists[place_of(literal)];
+    if !regs.is_empty() {
+        stages.push(stage(alloc, literal, regs.as_slice())?)?;
+    }
+    Ok(())
+}
+
+/// The hold stage of registers that took a literal.
+fn stage(alloc: Global, literal: NetLit, regs: &[RegId]) -> Result<Stage, AllocError>
+    ensures { IfOk result (λ stage. stage ≡ hold_stage literal regs.now) }
+{
+    let mut enable = Seq::new(alloc);
+    enable.push(literal)?;
+    Ok(Stage {
+        kind: StageKind::Hold,
+        enable,
+        regs: Seq::from_vec(Vec::from_slice(alloc, regs)?),
+        own: None,
+        guards: Seq::new(alloc),
+    })
 }

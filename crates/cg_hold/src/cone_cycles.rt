@@ -3,7 +3,7 @@
 //! They cost as much as the cone, so that there may be many of them: rounds of random bits, and cycles that are near to one in
 //! which a literal was seen not to hold the register. They settle most of the literals that the cycles of the whole machine leave.
 
-ghost use Rattle.std.specs.Prelude.{◌≡◌, ◌<◌, ◌≤◌, ℕ, Some, true, false, length, slice_get, IfOk, OnOk};
+ghost use Rattle.std.specs.Prelude.{◌≡◌, ◌<◌, ◌≤◌, ℕ, Some, true, false, length, slice_get, OnOk};
 ghost use Rattle.cg_claim.specs.LeafBits.{is_never};
 ghost use Rattle.cg_claim.specs.Question.{hold_question};
 ghost use Rattle.cg_hold.specs.inner.Choosing.{IsLiteralOf};
@@ -15,10 +15,10 @@ ghost use Rattle.cg_net.specs.NetSets.{is_in};
 ghost use Rattle.cg_netlist.specs.Moment.{values_at};
 ghost use Rattle.cg_netlist.specs.Netlist.{widest_of};
 
-use crate::look::Look;
 use crate::moves::next_word;
 use crate::nets::{lay_cell, start_word};
 use crate::random::Random;
+use crate::search::Look;
 use crate::words::{has_one, zeros};
 use cg_claim::leaf::{Leaf, LeafSource};
 use cg_machine::machine::Machine;

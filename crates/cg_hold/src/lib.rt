@@ -5,18 +5,15 @@
 //!
 //! The modules:
 //!
-//! - `literals`: the literals of a register in the order in which they are tried.
 //! - `random`: pseudo-random words.
 //! - `words`: words of 64 bits, each bit that of a cycle of its own.
 //! - `nets`: the words of nets in 64 cycles.
 //! - `moves`: in which cycles registers take another bit.
 //! - `cycles`: a few cycles with random bits, which settle most literals.
-//! - `search`: what they are looked for on.
-//! - `look`: what is looked at: a register with the cone of its inputs.
+//! - `search`: what they are looked for on, and what is looked at: a register with the cone of its inputs.
 //! - `cone_cycles`: a few cycles in which only that cone is looked at.
-//! - `marks`: marks at the literals that some cycle shows not to hold the register.
-//! - `trial`: what comes of one literal, by the cycles and by its claims.
-//! - `choice`: the literal that a register takes.
+//! - `trial`: what comes of one literal: some cycle shows that it does not hold the register, or its claims decide.
+//! - `choice`: the literals of a register in the order in which they are tried, and the one that it takes.
 //! - `candidates`: the registers that took each literal, and the hold stages of them.
 //! - `progress`: who is told how far long work is, this and that of the crates above.
 #![tactic(auto)]
@@ -25,9 +22,6 @@ pub mod candidates;
 mod choice;
 mod cone_cycles;
 mod cycles;
-mod literals;
-mod look;
-mod marks;
 mod moves;
 mod nets;
 pub mod progress;

@@ -6,7 +6,7 @@ ghost use Rattle.cg_cell.specs.Pins.{is_data};
 ghost use Rattle.cg_cell.specs.declared.cell.CellKind.TheVariants.{Flop};
 ghost use Rattle.cg_hold.specs.inner.Laying.{AreMoves};
 ghost use Rattle.cg_hold.specs.inner.Words.{IsWord, lane, lane_bit};
-ghost use Rattle.cg_machine.specs.Machine.{IsMachine, next};
+ghost use Rattle.cg_machine.specs.Machine.{next};
 ghost use Rattle.cg_netlist.specs.Circuit.{RegisterCell};
 ghost use Rattle.cg_netlist.specs.History.{next_value};
 ghost use Rattle.cg_netlist.specs.Moment.{cell_value, values_at};

@@ -1,6 +1,6 @@
-//! What comes of one literal, by its claims.
+//! What comes of one literal: some cycle shows that it does not hold the register, which marks tell, or its claims decide.
 
-ghost use Rattle.std.specs.Prelude.{◌≡◌, ◌<◌, ◌+◌, ◌∷◌, [], ℕ, true, if◌then◌else◌, IsTrue, IfErr, IfOk, OnOk, length, nat_lt};
+ghost use Rattle.std.specs.Prelude.{◌≡◌, ◌<◌, ◌+◌, ◌∷◌, [], ℕ, true, if◌then◌else◌, IsTrue, IfErr, IfOk, OnOk, length, nat_lt, Some, slice_get};
 ghost use Rattle.cg_aig.specs.Aig.{aig_ops};
 ghost use Rattle.cg_claim.specs.LeafBits.{is_never};
 ghost use Rattle.cg_claim.specs.Question.{Question, hold_question, idle_question};
@@ -9,7 +9,7 @@ ghost use Rattle.cg_claim_reach.specs.Reached.{IsConeOf};
 ghost use Rattle.cg_decide.specs.Decision.{IsNeverOne};
 ghost use Rattle.cg_hold.specs.inner.Choosing.{HasRoom, IdleFits, IsLiteralOf, IsRoom, is_good, refused_room, refused_trial, trial_of};
 ghost use Rattle.cg_hold.specs.inner.Cycles.{AreCycles};
-ghost use Rattle.cg_hold.specs.inner.Looking.{AreMarked, IsLook};
+ghost use Rattle.cg_hold.specs.inner.Looking.{AreMarked, IsLook, AreConeCycles};
 ghost use Rattle.cg_limit.specs.Answers.{OrNoMemory};
 ghost use Rattle.cg_stage_list_laws.specs.HoldList.{hold_width, serves};
 ghost use Rattle.cg_stage_list_laws.specs.Supports.{input_cone};
@@ -20,9 +20,7 @@ ghost use Rattle.cg_unroll.specs.Claims.{IsClaim};
 
 use crate::cone_cycles::ConeCycles;
 use crate::cycles::Cycles;
-use crate::look::Look;
-use crate::marks::mark;
-use crate::search::Search;
+use crate::search::{Look, Search};
 use cg_aig::Aig;
 use cg_claim::laws::claim_laws;
 use cg_decide::{Decider, Decision};
@@ -355,4 +353,59 @@ fn wanting(fault: ClaimFault) -> AllocError
         ClaimFault::NoMemory => AllocError,
         ClaimFault::Wide(_) | ClaimFault::Limit(_) => unreachable!(),
     }
+}
+
+/// A mark for each literal: set at those that the cycles of the whole machine show not to hold the register.
+pub(crate) fn marks_of(alloc: Global, look: &Look<'_>) -> Result<Vec<bool>, AllocError>
+    requires look { IsLook look.now.search.now.machine.now look.now.reg look.now.nets.now look.now.cone.now look.now.literals.now }
+    requires cycles { AreCycles look.now.search.now.machine.now look.now.search.now.cycles.now.cycles }
+    ensures { IfOk result (λ marks. AreMarked look.now.search.now.machine.now look.now.reg look.now.literals.now marks.items) }
+{
+    let machine = look.search.machine;
+    let _netlist = machine.netlist();
+    let mut marks = Vec::new(alloc);
+    for place in 0..look.literals.len() {
+        let moves = look
+            .search
+            .cycles
+            .show_move(machine, look.literals[place], look.reg);
+        marks.push(moves)?;
+    }
+    Ok(marks)
+}
+
+/// Marks the literals too that these cycles show not to hold the register. Whether there was one.
+pub(crate) fn mark(look: &Look<'_>, cycles: &ConeCycles, marks: &mut [bool]) -> bool
+    requires look { IsLook look.now.search.now.machine.now look.now.reg look.now.nets.now look.now.cone.now look.now.literals.now }
+    requires cycles { AreConeCycles look.now.search.now.machine.now look.now.reg cycles.now.nets.items cycles.now.moves }
+    requires marks { AreMarked look.now.search.now.machine.now look.now.reg look.now.literals.now marks.old }
+    ensures { AreMarked look.now.search.now.machine.now look.now.reg look.now.literals.now marks.new }
+{
+    if cycles.moves == 0 {
+        return false;
+    }
+    let mut any = false;
+    for place in 0..look.literals.len() {
+        let marked = marks[place];
+        if !marked {
+            let moves = cycles.show_move(look, look.literals[place]);
+            marks[place] = moves;
+            any = any | moves;
+        }
+    }
+    any
+}
+
+/// The place of the first literal without a mark; behind the last where there is none.
+pub(crate) fn first_open(marks: &[bool]) -> usize
+    ensures { (k : ℕ) → k < result → slice_get marks.now k ≡ Some true }
+{
+    let mut place = 0;
+    for marked in marks {
+        if !*marked {
+            return place;
+        }
+        place += 1;
+    }
+    place
 }

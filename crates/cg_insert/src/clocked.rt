@@ -1,14 +1,14 @@
 //! The enables of a machine, and the gating cells and registers that they make, told to a builder.
 
-ghost use Rattle.std.specs.Prelude.{◌≡◌, ◌≢◌, ◌≤◌, ◌+◌, ◌<◌, ◌^◌, ◌∷◌, [], ℕ, Some, map, length, slice_get, unwrap_or, IfOk};
+ghost use Rattle.std.specs.Prelude.{◌≡◌, ◌≢◌, ◌+◌, ◌<◌, ◌^◌, [], ℕ, Some, length, slice_get, unwrap_or, IfOk};
 ghost use Rattle.std.specs.List.{find};
 ghost use Rattle.std.specs.Option.{option_copied, option_map, option_to_list};
 ghost use Rattle.cg_cell.specs.Cell.{CellData};
 ghost use Rattle.cg_cell.specs.Fit.{is_fit};
 ghost use Rattle.cg_insert.specs.Insert.{enables_of, first_gater_output, gating_kind, test_net};
 ghost use Rattle.cg_insert.specs.inner.GatedParts.{gated_gaters, gated_registers};
-ghost use Rattle.cg_netlist_telling.specs.NamedParts.{clocked_part, clocked_parts};
-ghost use Rattle.cg_netlist_telling.specs.NamedParts.{gater_part, gater_parts, placed_outputs, with_clock};
+ghost use Rattle.cg_netlist_telling.specs.NamedParts.{clocked_parts};
+ghost use Rattle.cg_netlist_telling.specs.NamedParts.{gater_parts, with_clock};
 ghost use Rattle.cg_netlist_telling.specs.Telling.{MayTell, WasTold};
 ghost use Rattle.cg_machine.specs.Machine.{enable_of};
 ghost use Rattle.cg_netlist.specs.Ordered.{place_in};

@@ -1,4 +1,4 @@
-//! From parts to a netlist: what parts may get wrong, in order, and else their nets in net order. The net of a fault is the first
+//! From parts to a netlist: what parts may get wrong, in order, and the netlist where it is nothing. The net of a fault is the first
 //! that has some marks.
 
 ghost use Rattle.std.specs.Prelude.{◌≡◌, ◌⊎◌, ◌<◌, ◌&&◌, ◌||◌, List, length, IfOk, IsTrue, MatchResult, ℕ, Bool, Some, not, nat_eq, nat_lt};
@@ -20,7 +20,7 @@ ghost use Rattle.cg_net.specs.Names.{net_name};
 
 use crate::order::in_net_order;
 use crate::parts::{
-    Parts, add_listed, chain_cells, clock_roots, gater_output_marks, listed, order, uses,
+    Parts, add_listed, chain_cells, clock_roots, gater_output_marks, listed, marks, order, uses,
 };
 use cg_cell::name::Name;
 use cg_net::id::NetId;
@@ -181,18 +181,6 @@ fn name_of(alloc: Global, told: &Parts, net: usize) -> Result<Name, AllocError>
     ensures { IfOk result (λ name. name ≡ net_name told.now.names net) }
 {
     Name::new(alloc, told.names.name(net))
-}
-
-/// Of `count` nets, marks on these.
-pub(crate) fn marks(alloc: Global, count: usize, nets: &[NetId]) -> Result<Vec<bool>, AllocError>
-    requires { All (λ net. net < count) nets.now }
-    ensures { IfOk result (λ marks. AreMarksOf marks.items count (is_in nets.now)) }
-{
-    let mut marks = vec![in alloc; false; count]?;
-    for net in nets {
-        marks[net.number() as usize] = true;
-    }
-    Ok(marks)
 }
 
 /// Of `count` nets, marks on those that stand among these twice or more.

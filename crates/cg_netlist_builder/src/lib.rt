@@ -10,7 +10,7 @@
 //! - `parts`: the parts so far, by the numbers of their nets, and these nets by what they are to them.
 //! - `builder`: building netlists, part by part.
 //! - `order`: the nets in net order, and the parts with these numbers.
-//! - `finish`: the faults of what was built, in order: each is the first net that has a mark.
+//! - `finish`: the faults of what was built, in order, each at the first net that has a mark; or the netlist.
 #![tactic(auto)]
 
 mod adding;

@@ -15,7 +15,6 @@ ghost use Rattle.cg_netlist_builder.specs.inner.Numbers.{AreNumbers, numbers_wit
 ghost use Rattle.cg_netlist_builder.specs.inner.Words.{part_said};
 
 use crate::adding::{PartWords, add_gater, add_logic, add_net, add_placed, add_register};
-use crate::finish::marks;
 use crate::inits::give_inits;
 use cg_limit::MOST_NETS;
 use cg_net::id::NetId;
@@ -198,6 +197,18 @@ pub(crate) fn gater_output_marks(alloc: Global, told: &Parts) -> Result<Vec<bool
     let mut gated = Vec::new(alloc);
     add_gater_outputs(&mut gated, &told.gaters)?;
     marks(alloc, told.names.len(), &gated)
+}
+
+/// Of `count` nets, marks on these.
+pub(crate) fn marks(alloc: Global, count: usize, nets: &[NetId]) -> Result<Vec<bool>, AllocError>
+    requires { All (λ net. net < count) nets.now }
+    ensures { IfOk result (λ marks. AreMarksOf marks.items count (is_in nets.now)) }
+{
+    let mut marks = vec![in alloc; false; count]?;
+    for net in nets {
+        marks[net.number() as usize] = true;
+    }
+    Ok(marks)
 }
 
 /// The nets that are named at clock pins.

@@ -1,6 +1,6 @@
 //! The register that guards what a register stands on.
 
-ghost use Rattle.std.specs.Prelude.{◌≡◌, ◌<◌, ℕ, false, nat_eq, length, slice_get, option_and_then};
+ghost use Rattle.std.specs.Prelude.{◌≡◌, ◌<◌, ℕ, false, nat_eq, slice_get, option_and_then};
 ghost use Rattle.std.specs.Option.{option_map_or};
 ghost use Rattle.cg_cell.specs.Term.{Bit, lone_input};
 ghost use Rattle.cg_claim.specs.Reach.{register_term};

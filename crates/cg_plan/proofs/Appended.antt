@@ -5,7 +5,7 @@ use Rattle.cg_cell.specs.declared.fit.FitKind.{FitKind}
 use Rattle.cg_machine.proofs.OwnKept.{delay_keeps, gate_keeps, machine_front}
 use Rattle.cg_machine.specs.Added.{HasNames, add_delay, add_gate, find_delay, find_gate, next_delay, next_gate, next_name, or_push}
 use Rattle.cg_machine.specs.Added.{own_netlist, push_delay, push_gate}
-use Rattle.cg_machine.specs.Gates.{AddedGate, gate_cell}
+use Rattle.cg_machine.specs.Gates.{gate_cell}
 use Rattle.cg_machine.specs.Machine.{IsMachine, MachineData}
 use Rattle.cg_netlist.specs.Circuit.{RegisterCell}
 use Rattle.cg_plan.specs.Trial.{Appends}

@@ -1,6 +1,7 @@
 -- What a decision says of a claim, and what decisions of claims one after another say.
 use Rattle.std.proofs.Common.{◌≡◌, ℕ, Bool, true, false, if◌then◌else◌, List, [], ◌∷◌, ◌++◌, map, length, take, None}
 use Rattle.std.proofs.Common.{Some, refl, sym, ◌∙◌, ap, subst, append_assoc}
+use Rattle.std.proofs.lemmas.List.{append-nil}
 use Rattle.std.proofs.lemmas.List.Elements.{All-append, All-cons, All-nil}
 use Rattle.cg_aig.specs.Aig.{aig_ops}
 use Rattle.cg_claim.specs.Build.{claim_run}
@@ -25,14 +26,18 @@ use Rattle.cg_hold.proofs.ListNumber.{claim_number}
 use Rattle.cg_lrat.specs.AcceptedLog.{IsAccepted}
 use Rattle.cg_machine.specs.Machine.{IsMachine, MachineData}
 use Rattle.cg_plan_laws.specs.StageClaims.{NamedClaim}
-use Rattle.cg_plan_laws.specs.Reported.{AreCertified, Certifies, DoViolate, StageClaim}
+use Rattle.cg_plan_laws.specs.Reported.{AreAppended, AreCertified, Certifies, DoViolate, StageClaim}
 use Rattle.cg_plan_laws.specs.Trying.{first_false}
 use Rattle.cg_plan_laws.specs.declared.certificate.Certificate.{Certificate}
 use Rattle.cg_plan.specs.Planning.{AreWritable, IsWritableCertificate}
-use Rattle.cg_plan.specs.inner.Deciding.{AllCertified, Grow, IsCertified, IsDecided, numbered}
+use Rattle.cg_plan.specs.inner.Deciding.{AllCertified, Grow, IsDecided, numbered}
 use Rattle.cg_unroll.specs.Claims.{IsClaim}
 use Rattle.cg_unroll.specs.declared.claim.Claim.{Claim}
 use Rattle.cg_hold.proofs.Alone.{map_length}
+
+-- no more certificates
+pub nothing_more : (before after : List Certificate) → after ≡ before → AreAppended [] before after
+nothing_more before after is = record { more = []; whole = is ∙ sym (append-nil before); certified = refl }
 
 module _ (goals : GoalViolates) (law : NeverIsTried) (m : MachineData) (q : Question) (width : ℕ) (claim : Claim) (good : IsMachine m) (fits : SidesFit m q.sides) (is : IsClaim m q width claim) where
   -- bits at which the goal is 1
@@ -50,22 +55,34 @@ module _ (goals : GoalViolates) (law : NeverIsTried) (m : MachineData) (q : Ques
       long : length bits ≡ length claim.leaves
       long = one.each_leaf ∙ (ap (λ s. s.number) is.list ∙ (claim_number m q ∙ (sym (map_length shown_leaf (leaves_of m q)) ∙ ap length (sym is.leaves))))
 
-  -- a certificate that the goal is never 1
-  pub settled_never : (number : ℕ) (name : ClaimName) (before after : List Certificate) (certificate : Certificate) → IsNeverOne claim.aig claim.goal
+  -- a certificate that the goal is never 1, where proofs are wanted
+  pub settled_never : (proof : Bool) (number : ℕ) (name : ClaimName) (before after : List Certificate) (certificate : Certificate) → proof ≡ true → IsNeverOne claim.aig claim.goal
       → certificate.stage ≡ number → certificate.claim ≡ name → certificate.formula ≡ formula_of claim.aig claim.goal → IsAccepted certificate.formula certificate.log → IsWritableCertificate certificate → after ≡ before ++ certificate ∷ []
-      → IsDecided m number (name, q) before after None
-  settled_never number name before after certificate never stage_is name_is formula_is accepted writable whole = (
+      → IsDecided proof m number (name, q) before after None
+  settled_never proof number name before after certificate wanted never stage_is name_is formula_is accepted writable whole = (
     sym (decided_never law m q width claim good fits is never),
     record {
-      certificate = certificate;
-      whole = whole;
+      appended = subst (λ (b : Bool). AreAppended (if b then numbered m number ((name, q) ∷ []) else []) before after) (sym wanted)
+          (record { more = certificate ∷ []; whole = whole; certified = (certifies, refl) });
+      writable = λ are. subst AreWritable (sym whole) (All-append (λ (d : Certificate). IsWritableCertificate d) before (certificate ∷ []) are (All-cons (λ (d : Certificate). IsWritableCertificate d) certificate [] writable (All-nil (λ (d : Certificate). IsWritableCertificate d))));
+    },
+  )
+    where
+      certifies : Certifies (record { machine = m; number = number; claim = (name, q) }) certificate
       certifies = record {
         stage = stage_is;
         claim = name_is;
         formula = formula_is ∙ (ap (λ s. formula_of s claim.goal) is.list ∙ ap (formula_of (claim_run m q).domain) is.goal);
         accepted = accepted;
-      };
-      writable = writable;
+      }
+
+  -- that the goal is never 1, where no proof is wanted
+  pub settled_alone : (proof : Bool) (number : ℕ) (name : ClaimName) (items : List Certificate) → proof ≡ false → IsNeverOne claim.aig claim.goal → IsDecided proof m number (name, q) items items None
+  settled_alone proof number name items unwanted never = (
+    sym (decided_never law m q width claim good fits is never),
+    record {
+      appended = subst (λ (b : Bool). AreAppended (if b then numbered m number ((name, q) ∷ []) else []) items items) (sym unwanted) (nothing_more items items refl);
+      writable = λ are. are;
     },
   )
 
@@ -78,26 +95,33 @@ proved_decided s t g h d f log same goals proved is =
 pub writable_decided : (d : Decision) (f : Formula) (log : Log) → CanBeWritten d → d ≡ Never f log → IsFormula f × IsLog log
 writable_decided d f log can is = let p : IsFormula f × IsLog log × AreNumbered log.steps = subst CanBeWritten is can in (p.0, p.1)
 
--- one more certificate
-certified_more : (claims : List StageClaim) (more : List Certificate) (c : StageClaim) (certificate : Certificate) → AreCertified claims more → Certifies c certificate → AreCertified (claims ++ c ∷ []) (more ++ certificate ∷ [])
-certified_more [] more c certificate are certifies = subst (λ l. AreCertified (c ∷ []) (l ++ certificate ∷ [])) (sym are) (certifies, refl)
-certified_more (d ∷ claims) [] c certificate are certifies = absurd are
-certified_more (d ∷ claims) (e ∷ more) c certificate are certifies = (are.0, certified_more claims more c certificate are.1 certifies)
+-- certificates of claims and of one more
+certified_more : (claims more : List StageClaim) (first second : List Certificate) → AreCertified claims first → AreCertified more second → AreCertified (claims ++ more) (first ++ second)
+certified_more [] more first second are next = subst (λ l. AreCertified more (l ++ second)) (sym are) next
+certified_more (d ∷ claims) more [] second are next = absurd are
+certified_more (d ∷ claims) more (e ∷ first) second are next = (are.0, certified_more claims more first second are.1 next)
 
-pub all_more : (m : MachineData) (number : ℕ) (claims : List NamedClaim) (c : NamedClaim) (before middle after : List Certificate) → AllCertified m number claims before middle → IsCertified m number c middle after → AllCertified m number (claims ++ c ∷ []) before after
-all_more m number claims c before middle after all one = record {
-  appended = record {
-    more = all.appended.more ++ one.certificate ∷ [];
-    whole = one.whole ∙ (ap (λ l. l ++ one.certificate ∷ []) all.appended.whole ∙ append_assoc before all.appended.more (one.certificate ∷ []));
-    certified = subst (λ l. AreCertified l (all.appended.more ++ one.certificate ∷ [])) (sym (numbered_more claims))
-        (certified_more (numbered m number claims) all.appended.more (record { machine = m; number = number; claim = c }) one.certificate all.appended.certified one.certifies);
-  };
-  writable = λ are. subst AreWritable (sym one.whole) (All-append (λ (d : Certificate). IsWritableCertificate d) middle (one.certificate ∷ []) (all.writable are) (All-cons (λ (d : Certificate). IsWritableCertificate d) one.certificate [] one.writable (All-nil (λ (d : Certificate). IsWritableCertificate d))));
+appended_more : (claims more : List StageClaim) (before middle after : List Certificate) → AreAppended claims before middle → AreAppended more middle after → AreAppended (claims ++ more) before after
+appended_more claims more before middle after first second = record {
+  more = first.more ++ second.more;
+  whole = second.whole ∙ (ap (λ l. l ++ second.more) first.whole ∙ append_assoc before first.more second.more);
+  certified = certified_more claims more first.more second.more first.certified second.certified;
 }
-  where
-    numbered_more : (ds : List NamedClaim) → numbered m number (ds ++ c ∷ []) ≡ numbered m number ds ++ record { machine = m; number = number; claim = c } ∷ []
-    numbered_more [] = refl
-    numbered_more (d ∷ ds) = ap (λ (l : List StageClaim). record { machine = m; number = number; claim = d } ∷ l) (numbered_more ds)
+
+numbered_more : (m : MachineData) (number : ℕ) (claims : List NamedClaim) (c : NamedClaim) → numbered m number (claims ++ c ∷ []) ≡ numbered m number claims ++ numbered m number (c ∷ [])
+numbered_more m number [] c = refl
+numbered_more m number (d ∷ claims) c = ap (λ (l : List StageClaim). record { machine = m; number = number; claim = d } ∷ l) (numbered_more m number claims c)
+
+pub all_more : (proof : Bool) (m : MachineData) (number : ℕ) (claims : List NamedClaim) (c : NamedClaim) (before middle after : List Certificate) → AllCertified proof m number claims before middle
+    → AllCertified proof m number (c ∷ []) middle after → AllCertified proof m number (claims ++ c ∷ []) before after
+all_more true m number claims c before middle after all one = record {
+  appended = subst (λ l. AreAppended l before after) (sym (numbered_more m number claims c)) (appended_more (numbered m number claims) (numbered m number (c ∷ [])) before middle after all.appended one.appended);
+  writable = λ are. one.writable (all.writable are);
+}
+all_more false m number claims c before middle after all one = record {
+  appended = appended_more [] [] before middle after all.appended one.appended;
+  writable = λ are. one.writable (all.writable are);
+}
 
 -- what stands before is left
 pub taken_back : (before after : List Certificate) → Grow before after → take (length before) after ≡ before

@@ -15,11 +15,10 @@ use Rattle.cg_plan_laws.proofs.Telling.{certificates_reported, stages_reported}
 use Rattle.cg_plan_laws.specs.Plan.{Plan, Turn, after_outcome, after_try, earlier_of, is_inserted, try_one}
 use Rattle.cg_plan_laws.specs.Reported.{AreAppended, AreCertified, AreTold, IsBacked, MayFail, TellsOutcome, certified_claims, claims_for, plan_claims, without_bits}
 use Rattle.cg_plan_laws.specs.Trying.{Ends, tried}
-use Rattle.cg_plan_laws.specs.declared.certificate.Certificate.{Certificate}
 use Rattle.cg_plan_laws.specs.declared.outcome.Outcome.{Outcome}
 use Rattle.cg_plan_laws.specs.declared.outcome.Outcome.TheVariants.{Inserted, NeverIdle, NoCell, Refuted, Small, Wide}
 use Rattle.cg_plan_laws.specs.declared.settings.Settings.{Settings}
-use Rattle.cg_plan.specs.Planning.{AreWritable, StayWritable}
+use Rattle.cg_plan.specs.Planning.{StayWritable}
 use Rattle.cg_plan.specs.declared.plan.Draft.{Draft}
 use Rattle.cg_plan.specs.inner.Drafting.{IsDraft, Leads, MayStop, StillFit, earlier_by, kept, unbegun}
 use Rattle.cg_stage_laws.specs.Effects.{effect}
@@ -40,57 +39,29 @@ reported_length (turn ∷ turns) [] are = absurd are
 reported_length (turn ∷ turns) (t ∷ told) are = omega (arith, reported_length turns told are.2)
 
 module _ (library : List CellData) (settings : Settings) where
-  -- this came of a stage on the machine of the draft d, and e is the draft after it, which does not tell it yet; without proofs
-  -- it has no certificates
+  -- this came of a stage on the machine of the draft d, and e is the draft after it, which does not tell it yet
   pub record ComesOf (number : ℕ) (s : Stage) (outcome : Outcome) (d e : Draft) : Type 0 where
     pub count : number ≡ 1 + length d.stages
     pub tells : TellsOutcome d.machine s (tried library settings d.machine s) outcome
     pub machine : e.machine ≡ after_outcome d.machine s outcome
     pub stages : e.stages ≡ d.stages
     pub earlier : e.earlier ≡ d.earlier
-    pub proof : e.proof ≡ d.proof
-    pub certificates : d.proof ≡ true → AreAppended (claims_for number d.machine s outcome) d.certificates.items e.certificates.items
-    pub dropped : d.proof ≡ false → e.certificates.items ≡ []
+    pub certificates : AreAppended (if settings.proof then claims_for number d.machine s outcome else []) d.certificates.items e.certificates.items
     pub writable : StayWritable d.certificates.items e.certificates.items
-
-  -- what trying a stage tells of it, where the certificates that it gave are kept or let go
-  pub comes_kept : (number : ℕ) (s : Stage) (outcome : Outcome) (d e : Draft) (given : List Certificate) → number ≡ 1 + length d.stages
-      → TellsOutcome d.machine s (tried library settings d.machine s) outcome → e.machine ≡ after_outcome d.machine s outcome → e.stages ≡ d.stages
-      → e.earlier ≡ d.earlier → e.proof ≡ d.proof → AreAppended (claims_for number d.machine s outcome) d.certificates.items given
-      → StayWritable d.certificates.items given → e.certificates.items ≡ (if d.proof then given else []) → ComesOf number s outcome d e
-  comes_kept number s outcome d e given count tells machine stages earlier proof appended writable are = record {
-    count = count;
-    tells = tells;
-    machine = machine;
-    stages = stages;
-    earlier = earlier;
-    proof = proof;
-    certificates = λ wanted. subst (AreAppended (claims_for number d.machine s outcome) d.certificates.items) (sym (are ∙ by wanted)) appended;
-    dropped = λ unwanted. are ∙ by unwanted;
-    writable = stays d.proof are;
-  }
-    where
-      by : {b : Bool} → d.proof ≡ b → ◌≡◌ {A = List Certificate} (if d.proof then given else []) (if b then given else [])
-      by is = ap (λ b. if b then given else []) is
-
-      stays : (b : Bool) → e.certificates.items ≡ (if b then given else []) → StayWritable d.certificates.items e.certificates.items
-      stays true is = λ before. subst AreWritable (sym is) (writable before)
-      stays false is = λ before. subst AreWritable (sym is) (λ k certificate low. absurd (omega (arith, low)))
 
   abbrev turn_of : Plan → Stage → Outcome → Turn
   turn_of p s outcome = record { machine = p.machine; stage = s; outcome = without_bits outcome }
 
   -- what is told after one more turn
-  grown : (proof : Bool) (p : Plan) (d e : Draft) (number : ℕ) (s : Stage) (outcome : Outcome) → IsDraft proof p d → ComesOf number s outcome d e → IsDraft proof (after_try p s (Ends (without_bits outcome))) (kept e s outcome)
-  grown proof p d e number s outcome draft comes = record {
-    kept = comes.proof ∙ draft.kept;
+  grown : (p : Plan) (d e : Draft) (number : ℕ) (s : Stage) (outcome : Outcome) → IsDraft settings p d → ComesOf number s outcome d e → IsDraft settings (after_try p s (Ends (without_bits outcome))) (kept e s outcome)
+  grown p d e number s outcome draft comes = record {
     going = refl;
     machine = comes.machine ∙ (ap (λ m. after_outcome m s outcome) draft.machine ∙ ap (λ b. if b then effect p.machine s else p.machine) (sym (same_inserted outcome)));
     stages = subst (λ l. AreTold (p.turns ++ turn_of p s outcome ∷ []) (l ++ (s, outcome) ∷ [])) (sym comes.stages)
         (stages_reported p.turns d.stages (turn_of p s outcome) outcome draft.stages (refl, subst (λ m. IsBacked m s outcome) draft.machine comes.tells.1));
     earlier = ap (λ l. l ++ earlier_by s outcome ∷ []) (comes.earlier ∙ draft.earlier)
         ∙ (ap (λ b. earlier_of p ++ record { stage = s; inserted = b } ∷ []) (sym (same_inserted outcome)) ∙ sym (map-append earlier_turn p.turns (turn_of p s outcome ∷ [])));
-    certificates = certified proof draft.kept draft.certificates;
+    certificates = certified settings.proof draft.certificates comes.certificates;
     writable = comes.writable draft.writable;
   }
     where
@@ -100,27 +71,29 @@ module _ (library : List CellData) (settings : Settings) where
       count : number ≡ 1 + length p.turns
       count = comes.count ∙ ap (λ n. 1 + n) (reported_length p.turns d.stages draft.stages)
 
-      appended : d.proof ≡ true → AreAppended (claims_for (1 + length p.turns) p.machine s (without_bits outcome)) d.certificates.items e.certificates.items
-      appended wanted = subst (λ b. AreAppended (if b then certified_claims (1 + length p.turns) p.machine s else []) d.certificates.items e.certificates.items) (sym (same_inserted outcome))
+      appended : AreAppended (claims_for number d.machine s outcome) d.certificates.items e.certificates.items
+          → AreAppended (claims_for (1 + length p.turns) p.machine s (without_bits outcome)) d.certificates.items e.certificates.items
+      appended given = subst (λ b. AreAppended (if b then certified_claims (1 + length p.turns) p.machine s else []) d.certificates.items e.certificates.items) (sym (same_inserted outcome))
           (subst (λ n. AreAppended (claims_for n p.machine s outcome) d.certificates.items e.certificates.items) count
-          (subst (λ m. AreAppended (claims_for number m s outcome) d.certificates.items e.certificates.items) draft.machine (comes.certificates wanted)))
+          (subst (λ m. AreAppended (claims_for number m s outcome) d.certificates.items e.certificates.items) draft.machine given))
 
-      certified : (b : Bool) → d.proof ≡ b → AreCertified (if b then plan_claims 1 p.turns else []) d.certificates.items
+      certified : (b : Bool) → AreCertified (if b then plan_claims 1 p.turns else []) d.certificates.items
+          → AreAppended (if b then claims_for number d.machine s outcome else []) d.certificates.items e.certificates.items
           → AreCertified (if b then plan_claims 1 (p.turns ++ turn_of p s outcome ∷ []) else []) e.certificates.items
-      certified true is before = certificates_reported p.turns (turn_of p s outcome) d.certificates.items e.certificates.items before (appended is)
-      certified false is before = comes.dropped is
+      certified true before given = certificates_reported p.turns (turn_of p s outcome) d.certificates.items e.certificates.items before (appended given)
+      certified false before given = given.whole ∙ (ap (λ l. l ++ given.more) before ∙ given.certified)
 
   -- what comes of the stage on the machine of the plan
-  comes_on : (proof : Bool) (p : Plan) (d e : Draft) (number : ℕ) (s : Stage) (outcome : Outcome) → IsDraft proof p d → ComesOf number s outcome d e → tried library settings p.machine s ≡ Ends (without_bits outcome)
-  comes_on proof p d e number s outcome draft comes = ap (λ m. tried library settings m s) (sym draft.machine) ∙ comes.tells.0
+  comes_on : (p : Plan) (d e : Draft) (number : ℕ) (s : Stage) (outcome : Outcome) → IsDraft settings p d → ComesOf number s outcome d e → tried library settings p.machine s ≡ Ends (without_bits outcome)
+  comes_on p d e number s outcome draft comes = ap (λ m. tried library settings m s) (sym draft.machine) ∙ comes.tells.0
 
-  pub leads_one : (d e : Draft) (number : ℕ) (s : Stage) (outcome : Outcome) → ComesOf number s outcome d e → Leads (λ p. try_one library settings p s) d (kept e s outcome)
-  leads_one d e number s outcome comes proof p draft =
-      subst (λ t. IsDraft proof (after_try p s t) (kept e s outcome)) (sym (comes_on proof p d e number s outcome draft comes)) (grown proof p d e number s outcome draft comes)
+  pub leads_one : (d e : Draft) (number : ℕ) (s : Stage) (outcome : Outcome) → ComesOf number s outcome d e → Leads settings (λ p. try_one library settings p s) d (kept e s outcome)
+  leads_one d e number s outcome comes p draft =
+      subst (λ t. IsDraft settings (after_try p s t) (kept e s outcome)) (sym (comes_on p d e number s outcome draft comes)) (grown p d e number s outcome draft comes)
 
-  pub stops_one : (d : Draft) (s : Stage) (fault : AddFault) → MayFail (tried library settings d.machine s) fault → MayStop (λ p. try_one library settings p s) d fault
-  stops_one d s NoMemory may proof p draft = tt
-  stops_one d s (LimitFault limit) may proof p draft = ap (λ t. (after_try p s t).limit) (ap (λ m. tried library settings m s) (sym draft.machine) ∙ may)
+  pub stops_one : (d : Draft) (s : Stage) (fault : AddFault) → MayFail (tried library settings d.machine s) fault → MayStop settings (λ p. try_one library settings p s) d fault
+  stops_one d s NoMemory may p draft = tt
+  stops_one d s (LimitFault limit) may p draft = ap (λ t. (after_try p s t).limit) (ap (λ m. tried library settings m s) (sym draft.machine) ∙ may)
 
   -- a machine on which nothing was tried
   safe_self : (m : MachineData) → IsMachine m → IsSafe library settings m (unbegun m)

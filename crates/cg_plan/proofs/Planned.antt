@@ -42,7 +42,7 @@ module _ (settings : Settings) (counts : Option ZeroCounts) (m : MachineData) wh
           record { none = at; stages = ap (λ (f : HoldFound). f.stages) same; wide = ap (λ (f : HoldFound). f.wide) same }
 
   -- the hold stages fit the draft of which nothing was tried
-  pub holds_fit : (found : HoldFound) (d : Draft) → IsMachine m → IsFound found → IsDraft settings.proof (unbegun m) d → AllFit d.machine found.stages
+  pub holds_fit : (found : HoldFound) (d : Draft) → IsMachine m → IsFound found → IsDraft settings (unbegun m) d → AllFit d.machine found.stages
   holds_fit found d good is begun = subst (λ n. AllFit n found.stages) (sym begun.machine) (subst (AllFit m) (sym is.stages) (hold_fits m good counts settings.width))
 
 module _ (library : List CellData) (settings : Settings) (counts : Option ZeroCounts) (m : MachineData) where
@@ -69,23 +69,23 @@ module _ (library : List CellData) (settings : Settings) (counts : Option ZeroCo
       go true at is = let same : LimitFault ClaimNodes ≡ fault = cc in subst (PlanMayFail (plan_of library settings counts m).limit) same (ap (λ b. (plan_by b).limit) at)
       go false at is = absurd (cc)
 
-  module _ (found : HoldFound) (is : IsFound settings counts m found) (d : Draft) (begun : IsDraft settings.proof (unbegun m) d) where
+  module _ (found : HoldFound) (is : IsFound settings counts m found) (d : Draft) (begun : IsDraft settings (unbegun m) d) where
     parts_are : all_parts library settings found.stages (unbegun m) ≡ plan_of library settings counts m
     parts_are = ap (λ stages. all_parts library settings stages (unbegun m)) is.stages ∙ planned is.none
 
-    pub whole_draft : (e : Draft) → Leads (all_parts library settings found.stages) d e → IsDraft settings.proof (plan_of library settings counts m) e
-    whole_draft e leads = subst (λ p. IsDraft settings.proof p e) parts_are (leads settings.proof (unbegun m) begun)
+    pub whole_draft : (e : Draft) → Leads settings (all_parts library settings found.stages) d e → IsDraft settings (plan_of library settings counts m) e
+    whole_draft e leads = subst (λ p. IsDraft settings p e) parts_are (leads (unbegun m) begun)
 
-    pub plan_fails : (fault : AddFault) → MayStop (all_parts library settings found.stages) d fault → PlanMayFail (plan_of library settings counts m).limit fault
-    plan_fails fault may = subst (λ (p : Plan). PlanMayFail p.limit fault) parts_are (may settings.proof (unbegun m) begun)
+    pub plan_fails : (fault : AddFault) → MayStop settings (all_parts library settings found.stages) d fault → PlanMayFail (plan_of library settings counts m).limit fault
+    plan_fails fault may = subst (λ (p : Plan). PlanMayFail p.limit fault) parts_are (may (unbegun m) begun)
 
   abbrev told_by : Draft → ℕ → ReportedPlan
   told_by d wide = record { machine = d.machine; stages = d.stages; wide = wide; certificates = d.certificates.items }
 
-  pub is_plan : (d : Draft) (wide : ℕ) → IsDraft settings.proof (plan_of library settings counts m) d → wide ≡ wide_of settings m → IsPlan library settings counts m (told_by d wide)
+  pub is_plan : (d : Draft) (wide : ℕ) → IsDraft settings (plan_of library settings counts m) d → wide ≡ wide_of settings m → IsPlan library settings counts m (told_by d wide)
   is_plan d wide draft same = record { whole = draft.going; machine = draft.machine; stages = draft.stages; wide = same; certificates = draft.certificates }
 
-  pub is_safe : (d : Draft) → IsMachine m → IsDraft settings.proof (plan_of library settings counts m) d → IsSafePlan library settings m d.machine
+  pub is_safe : (d : Draft) → IsMachine m → IsDraft settings (plan_of library settings counts m) d → IsSafePlan library settings m d.machine
   is_safe d good draft =
       let safe : IsMachine (plan_of library settings counts m).machine × Same m (plan_of library settings counts m).machine = plans_safe library settings counts m good in
       subst (IsSafePlan library settings m) (sym draft.machine) (record { is_machine = safe.0; same = safe.1; cells = has_cells library settings counts m good })

@@ -1,5 +1,5 @@
 -- Rounds, from the lists that the draft finds.
-use Rattle.std.proofs.Common.{◌≡◌, Bool, ℕ, zero, suc, ◌==◌, IfOk, true, List, [], ◌∷◌, length, None, Result, Ok, Err, refl, sym, ◌∙◌, ap}
+use Rattle.std.proofs.Common.{◌≡◌, ℕ, zero, suc, ◌==◌, IfOk, true, List, [], ◌∷◌, length, None, Result, Ok, Err, refl, sym, ◌∙◌, ap}
 use Rattle.std.proofs.Common.{subst, arith}
 use Rattle.std.proofs.lemmas.Bool.{eqb-true}
 use Rattle.std.specs.declared.alloc.AllocError.{AllocError}
@@ -20,10 +20,10 @@ use Rattle.cg_plan.specs.declared.plan.Draft.{Draft}
 use Rattle.cg_plan.specs.inner.Drafting.{IsDraft, Leads, MayStop, round_list}
 
 -- the list of a round, as the draft has it
-pub list_reported : (kind : StageKind) (settings : Settings) (proof : Bool) (p : Plan) (d : Draft) → IsDraft proof p d → round_list kind settings d.machine d.earlier ≡ list_by kind settings p
-list_reported Hold settings proof p d draft = refl
-list_reported Stable settings proof p d draft = ap (λ m. round_list Stable settings m d.earlier) draft.machine ∙ ap (λ l. round_list Stable settings p.machine l) draft.earlier
-list_reported Unseen settings proof p d draft = ap (λ m. round_list Unseen settings m d.earlier) draft.machine ∙ ap (λ l. round_list Unseen settings p.machine l) draft.earlier
+pub list_reported : (kind : StageKind) (settings : Settings) (p : Plan) (d : Draft) → IsDraft settings p d → round_list kind settings d.machine d.earlier ≡ list_by kind settings p
+list_reported Hold settings p d draft = refl
+list_reported Stable settings p d draft = ap (λ m. round_list Stable settings m d.earlier) draft.machine ∙ ap (λ l. round_list Stable settings p.machine l) draft.earlier
+list_reported Unseen settings p d draft = ap (λ m. round_list Unseen settings m d.earlier) draft.machine ∙ ap (λ l. round_list Unseen settings p.machine l) draft.earlier
 
 pub list_fits : (kind : StageKind) (settings : Settings) (m : MachineData) (earlier : List Earlier) → IsMachine m → AllFit m (round_list kind settings m earlier)
 list_fits Hold settings m earlier good = tt
@@ -55,9 +55,9 @@ found_fits (Err fault) kind settings m earlier good is = tt
 
 -- a round on the stages that the draft found
 pub leads_round : (library : List CellData) (settings : Settings) (kind : StageKind) (stages : List Stage) (d e : Draft) → stages ≡ round_list kind settings d.machine d.earlier
-    → Leads (λ p. try_all library settings p stages) d e → Leads (λ p. try_all library settings p (list_by kind settings p)) d e
-leads_round library settings kind stages d e is leads proof p draft = subst (λ l. IsDraft proof (try_all library settings p l) e) (is ∙ list_reported kind settings proof p d draft) (leads proof p draft)
+    → Leads settings (λ p. try_all library settings p stages) d e → Leads settings (λ p. try_all library settings p (list_by kind settings p)) d e
+leads_round library settings kind stages d e is leads p draft = subst (λ l. IsDraft settings (try_all library settings p l) e) (is ∙ list_reported kind settings p d draft) (leads p draft)
 
 pub stops_round : (library : List CellData) (settings : Settings) (kind : StageKind) (stages : List Stage) (d : Draft) (fault : AddFault) → stages ≡ round_list kind settings d.machine d.earlier
-    → MayStop (λ p. try_all library settings p stages) d fault → MayStop (λ p. try_all library settings p (list_by kind settings p)) d fault
-stops_round library settings kind stages d fault is may proof p draft = subst (λ l. PlanMayFail (try_all library settings p l).limit fault) (is ∙ list_reported kind settings proof p d draft) (may proof p draft)
+    → MayStop settings (λ p. try_all library settings p stages) d fault → MayStop settings (λ p. try_all library settings p (list_by kind settings p)) d fault
+stops_round library settings kind stages d fault is may p draft = subst (λ l. PlanMayFail (try_all library settings p l).limit fault) (is ∙ list_reported kind settings p d draft) (may p draft)

@@ -1,5 +1,5 @@
 -- What trying a stage does, from its outcome.
-use Rattle.std.proofs.Common.{◌≡◌, ℕ, true, false, List, refl, sym, subst}
+use Rattle.std.proofs.Common.{◌≡◌, ℕ, true, false, if◌then◌else◌, List, [], refl, sym, subst}
 use Rattle.std.proofs.lemmas.Bool.{both_ways}
 use Rattle.cg_cell.specs.Cell.{CellData}
 use Rattle.cg_machine.specs.Machine.{IsMachine, MachineData}
@@ -44,7 +44,7 @@ module _ (library : List CellData) (settings : Settings) (m : MachineData) (good
 
   module _ (number : ℕ) (before after : List Certificate) (o : Outcome) (tells : TellsOutcome m s (tried library settings m s) o) (is : n ≡ after_outcome m s o) where
     -- with these certificates
-    whole : AreAppended (claims_for number m s o) before after → StayWritable before after → IsTried library settings number m s before o n after
+    whole : AreAppended (if settings.proof then claims_for number m s o else []) before after → StayWritable before after → IsTried library settings number m s before o n after
     whole appended writable = record {
       outcome = tells;
       deserved = deserved o tells;
@@ -55,12 +55,12 @@ module _ (library : List CellData) (settings : Settings) (m : MachineData) (good
     }
 
     pub tried_other : is_inserted o ≡ false → after ≡ before → IsTried library settings number m s before o n after
-    tried_other ends same = whole (appended_none m s number before after o ends same) (writable_same before after same)
+    tried_other ends same = whole (appended_none settings.proof m s number before after o ends same) (writable_same before after same)
 
-    pub tried_inserted : is_inserted o ≡ true → Pushes m number s before after o → IsTried library settings number m s before o n after
+    pub tried_inserted : is_inserted o ≡ true → Pushes settings.proof m number s before after o → IsTried library settings number m s before o n after
     tried_inserted ends pushes = let p = pushed o ends pushes in whole p.0 p.1
       where
-        pushed : (q : Outcome) → is_inserted q ≡ true → Pushes m number s before after q → AreAppended (claims_for number m s q) before after × StayWritable before after
+        pushed : (q : Outcome) → is_inserted q ≡ true → Pushes settings.proof m number s before after q → AreAppended (if settings.proof then claims_for number m s q else []) before after × StayWritable before after
         pushed Inserted inserted all = (all.appended, all.writable)
         pushed (Refuted claim bits) inserted all = absurd (both_ways false refl inserted)
         pushed (Wide claim leaves) inserted all = absurd (both_ways false refl inserted)

@@ -1,5 +1,5 @@
 -- What trying a stage does to a machine and to the certificates.
-use Rattle.std.specs.Prelude.{◌≡◌, ℕ, List, ◌++◌, map, Option, None}
+use Rattle.std.specs.Prelude.{◌≡◌, ℕ, if◌then◌else◌, List, [], ◌++◌, map, None}
 use Rattle.cg_cell.specs.Cell.{CellData}
 use Rattle.cg_machine.specs.Added.{HasNames, own_netlist}
 use Rattle.cg_machine.specs.Extends.{Extends}
@@ -50,15 +50,15 @@ pub record Keeps (m n : MachineData) : Type 0 where
   pub appends : Appends m n
 
 -- A stage was tried on m as the stage of this number, and n is the machine after it. What the outcome says is so. An inserted
--- stage has its effect, and the certificates of its claims stand behind those from before; any other outcome leaves the machine
--- and the certificates.
+-- stage has its effect, and the certificates of its claims stand behind those from before where the settings ask for proofs, and
+-- else none do; any other outcome leaves the machine and the certificates.
 pub record IsTried (library : List CellData) (settings : Settings) (number : ℕ) (m : MachineData) (s : Stage)
     (before : List Certificate) (end : Outcome) (n : MachineData) (after : List Certificate) : Type 0 where
   pub outcome : TellsOutcome m s (tried library settings m s) end
   pub deserved : Deserves library settings m s end
   pub machine : n ≡ after_outcome m s end
   pub safe : WhereInserted m s end n
-  pub certificates : AreAppended (claims_for number m s end) before after
+  pub certificates : AreAppended (if settings.proof then claims_for number m s end else []) before after
   pub writable : StayWritable before after
 
 -- a stage was refused: the limit is the one that is passed, the certificates are those from before, and to the machine at most

@@ -23,6 +23,35 @@ use cg_unroll::unroller::Unroller;
 use std::alloc::{AllocError, Global};
 use std::marker::Model;
 
+/// A stage with the sets of its registers and of its guards, which all its claims share. Clauses see the stage.
+#[derive(Drop)]
+pub(crate) struct StageSets<'a> {
+    pub(crate) stage: &'a Stage,
+    pub(crate) unseen: UnseenRegs<'a>,
+}
+
+impl<'a> Model for StageSets<'a> {
+    ghost use Rattle.std.specs.Prelude.{◌≡◌};
+    ghost use Rattle.cg_machine.specs.declared.stage.Stage.{Stage};
+    ghost use Rattle.cg_plan.specs.inner.Naming.{unseen_of};
+
+    ghost Value = { Stage };
+
+    ghost view = { λ s. s.stage.now };
+
+    ghost invariant = { λ s. s.unseen ≡ unseen_of s.stage.now };
+}
+
+impl<'a> StageSets<'a> {
+    /// The stage with its sets.
+    pub(crate) fn new(alloc: Global, stage: &'a Stage) -> Result<StageSets<'a>, AllocError>
+        ensures { IfOk result (λ sets. sets ≡ stage.now) }
+    {
+        let unseen = UnseenRegs::new(alloc, stage.guards.as_slice(), stage.regs.as_slice())?;
+        Ok(StageSets { stage, unseen })
+    }
+}
+
 /// The names of the claims of a stage in order, but for that it can idle: one for each register, or one for each target
 /// that one of them reaches.
 pub(crate) fn claim_names(
@@ -67,6 +96,28 @@ fn stable_names(alloc: Global, regs: &[RegId]) -> Result<Vec<ClaimName>, AllocEr
     Ok(names)
 }
 
+/// Builds the claim of this name; where it is too wide, the answer is that the stage ends so. It is refused where it has too
+/// many nodes.
+pub(crate) fn measure(
+    unroller: &mut Unroller,
+    machine: &Machine,
+    stage: &StageSets<'_>,
+    name: &ClaimName,
+    width: u32,
+) -> Result<Option<Outcome>, AddFault>
+    requires fits { Fits machine.now stage.now }
+    requires name { NameFits machine.now name.now }
+    ensures end { OrNoMemory NoMemory (λ end. end) result (wide_end machine.now width (named machine.now stage.now name.now)) }
+    ensures built { IfOk result (IsBuilt machine.now (question_of machine.now stage.now name.now) width unroller.new) }
+{
+    match build_claim(unroller, machine, stage, name, width) {
+        Ok(()) => Ok(None),
+        Err(ClaimFault::Wide(leaves)) => Ok(Some(Outcome::Wide(*name, leaves))),
+        Err(ClaimFault::Limit(limit)) => Err(AddFault::Limit(limit)),
+        Err(ClaimFault::NoMemory) => Err(AddFault::NoMemory),
+    }
+}
+
 /// Builds the claim that a name names.
 fn build_claim(
     unroller: &mut Unroller,
@@ -92,61 +143,10 @@ fn build_claim(
     }
 }
 
-/// Builds the claim of this name; where it is too wide, the answer is that the stage ends so. It is refused where it has too
-/// many nodes.
-pub(crate) fn measure(
-    unroller: &mut Unroller,
-    machine: &Machine,
-    stage: &StageSets<'_>,
-    name: &ClaimName,
-    width: u32,
-) -> Result<Option<Outcome>, AddFault>
-    requires fits { Fits machine.now stage.now }
-    requires name { NameFits machine.now name.now }
-    ensures end { OrNoMemory NoMemory (λ end. end) result (wide_end machine.now width (named machine.now stage.now name.now)) }
-    ensures built { IfOk result (IsBuilt machine.now (question_of machine.now stage.now name.now) width unroller.new) }
-{
-    match build_claim(unroller, machine, stage, name, width) {
-        Ok(()) => Ok(None),
-        Err(ClaimFault::Wide(leaves)) => Ok(Some(Outcome::Wide(*name, leaves))),
-        Err(ClaimFault::Limit(limit)) => Err(AddFault::Limit(limit)),
-        Err(ClaimFault::NoMemory) => Err(AddFault::NoMemory),
-    }
-}
-
 /// The literal of a hold stage, which has one.
 pub(crate) fn first_literal(enables: &[NetLit]) -> NetLit
     requires { 0 < length enables.now }
     ensures { result ≡ first_literal enables.now }
 {
     enables[0]
-}
-
-/// A stage with the sets of its registers and of its guards, which all its claims share. Clauses see the stage.
-#[derive(Drop)]
-pub(crate) struct StageSets<'a> {
-    pub(crate) stage: &'a Stage,
-    pub(crate) unseen: UnseenRegs<'a>,
-}
-
-impl<'a> Model for StageSets<'a> {
-    ghost use Rattle.std.specs.Prelude.{◌≡◌};
-    ghost use Rattle.cg_machine.specs.declared.stage.Stage.{Stage};
-    ghost use Rattle.cg_plan.specs.inner.Naming.{unseen_of};
-
-    ghost Value = { Stage };
-
-    ghost view = { λ s. s.stage.now };
-
-    ghost invariant = { λ s. s.unseen ≡ unseen_of s.stage.now };
-}
-
-impl<'a> StageSets<'a> {
-    /// The stage with its sets.
-    pub(crate) fn new(alloc: Global, stage: &'a Stage) -> Result<StageSets<'a>, AllocError>
-        ensures { IfOk result (λ sets. sets ≡ stage.now) }
-    {
-        let unseen = UnseenRegs::new(alloc, stage.guards.as_slice(), stage.regs.as_slice())?;
-        Ok(StageSets { stage, unseen })
-    }
 }

@@ -1,6 +1,6 @@
-//! What tries stages one after another.
+//! What tries stages one after another, and decides a claim that is built.
 
-ghost use Rattle.std.specs.Prelude.{◌≡◌, ℕ, IsTrue, IfOk, IfErr, OnErr, OnOk};
+ghost use Rattle.std.specs.Prelude.{◌≡◌, ℕ, IsTrue, IfOk, IfErr, OnErr, OnOk, true, false, length, map};
 ghost use Rattle.cg_aig.specs.Aig.{aig_ops};
 ghost use Rattle.cg_claim.specs.Question.{Question, idle_question};
 ghost use Rattle.cg_claim.specs.Violates.{SidesFit};
@@ -10,28 +10,41 @@ ghost use Rattle.cg_plan_laws.specs.StageClaims.{claims_of};
 ghost use Rattle.cg_plan_laws.specs.Reported.{MayFail, TellsOutcome};
 ghost use Rattle.cg_plan_laws.specs.Trying.{decided, measured, tried};
 ghost use Rattle.cg_plan.specs.Trial.{IsRefused, IsTried, Keeps};
-ghost use Rattle.cg_plan.specs.inner.Deciding.{Grow, IsIdleDecided, Settles};
+ghost use Rattle.cg_plan.specs.inner.Deciding.{Grow, IsIdleDecided, Settles, IsDecided};
 ghost use Rattle.cg_plan.specs.inner.Judging.{Certifying, IsJudged, Pushes, by_claims};
 ghost use Rattle.cg_plan.specs.inner.Naming.{AreNames};
 ghost use Rattle.cg_claim_reach.specs.Fanout.{Knows};
 ghost use Rattle.cg_stage_laws.specs.Stages.{Fits};
 ghost use Rattle.cg_unroll.specs.Claims.{IsClaim};
+ghost use Rattle.cg_claim.specs.declared.leaf.LeafBit.{LeafBit};
+ghost use Rattle.cg_decide.specs.Decision.{IsNeverOne};
 
 use crate::cells::early_end;
 use crate::claims::{StageSets, claim_names, measure};
 use crate::insert::insert;
-use crate::rules::Rules;
+use cg_cell::library::Library;
+use cg_claim::laws::claim_laws;
+use cg_claim::leaf::{Leaf, LeafBit};
 use cg_claim::name::ClaimName;
 use cg_claim_reach::fanout::Fanout;
-use cg_decide::Decider;
+use cg_decide::{Decider, Decision};
+use cg_list::Seq;
 use cg_machine::machine::Machine;
 use cg_machine::stage::Stage;
 use cg_netlist::fault::AddFault;
 use cg_plan_laws::certificate::Certificate;
 use cg_plan_laws::laws::plan_laws;
 use cg_plan_laws::outcome::Outcome;
+use cg_plan_laws::settings::Settings;
 use cg_unroll::unroller::Unroller;
 use std::alloc::{AllocError, Global};
+
+/// What stages are tried by: the cells that may be placed, and what bounds the plan.
+#[derive(Clone, Copy)]
+pub(crate) struct Rules<'a> {
+    pub library: &'a Library,
+    pub settings: &'a Settings,
+}
 
 /// A stage with its number in the plan.
 #[derive(Clone, Copy)]
@@ -48,14 +61,15 @@ struct Claims<'a> {
     stage: &'a StageSets<'a>,
     names: &'a [ClaimName],
     width: u32,
+    proof: bool,
 }
 
 /// What tries stages, in buffers that are kept, so that a claim costs what it reaches.
 #[derive(Drop)]
 pub(crate) struct Judge {
-    pub(crate) alloc: Global,
-    pub(crate) unroller: Unroller,
-    pub(crate) decider: Decider,
+    alloc: Global,
+    unroller: Unroller,
+    decider: Decider,
 }
 
 impl Judge {
@@ -120,7 +134,7 @@ impl Judge {
         ensures outcome { IfOk result (λ outcome. TellsOutcome machine.old entry.now.stage.now
             (tried rules.now.library.now rules.now.settings.now machine.old entry.now.stage.now) outcome) }
         ensures machine { IfOk result (λ outcome. machine.new ≡ after_outcome machine.old entry.now.stage.now outcome) }
-        ensures certificates { IfOk result (Pushes machine.old entry.now.number entry.now.stage.now into.old.items into.new.items) }
+        ensures certificates { IfOk result (Pushes rules.now.settings.now.proof machine.old entry.now.number entry.now.stage.now into.old.items into.new.items) }
         ensures knows { OnOk result (Knows machine.new fanout.new) }
         ensures fault { IfErr result (MayFail (tried rules.now.library.now rules.now.settings.now machine.old entry.now.stage.now)) }
         ensures kept { OnErr result (Keeps machine.old machine.new) }
@@ -128,7 +142,7 @@ impl Judge {
     {
         match early_end(entry.stage, rules.library, rules.settings) {
             Some(outcome) => Ok(outcome),
-            None => self.try_claims(machine, fanout, entry, rules.settings.width, into),
+            None => self.try_claims(machine, fanout, entry, rules.settings, into),
         }
     }
 
@@ -138,22 +152,22 @@ impl Judge {
         machine: &mut Machine,
         fanout: &mut Fanout,
         entry: &Entry<'_>,
-        width: u32,
+        settings: &Settings,
         into: &mut Vec<Certificate>,
     ) -> Result<Outcome, AddFault>
         requires fits { Fits machine.old entry.now.stage.now }
         requires knows { Knows machine.old fanout.old }
         ensures outcome { IfOk result (λ outcome. TellsOutcome machine.old entry.now.stage.now
-            (by_claims machine.old width entry.now.stage.now) outcome) }
+            (by_claims machine.old settings.now.width entry.now.stage.now) outcome) }
         ensures machine { IfOk result (λ outcome. machine.new ≡ after_outcome machine.old entry.now.stage.now outcome) }
-        ensures certificates { IfOk result (Pushes machine.old entry.now.number entry.now.stage.now into.old.items into.new.items) }
+        ensures certificates { IfOk result (Pushes settings.now.proof machine.old entry.now.number entry.now.stage.now into.old.items into.new.items) }
         ensures knows { OnOk result (Knows machine.new fanout.new) }
-        ensures fault { IfErr result (MayFail (by_claims machine.old width entry.now.stage.now)) }
+        ensures fault { IfErr result (MayFail (by_claims machine.old settings.now.width entry.now.stage.now)) }
         ensures kept { OnErr result (Keeps machine.old machine.new) }
         ensures grown { Grow into.old.items into.new.items }
     {
         let _netlist = machine.netlist();
-        if let Some(end) = self.judge_claims(machine, fanout, entry, width, into)? {
+        if let Some(end) = self.judge_claims(machine, fanout, entry, settings, into)? {
             return Ok(end);
         }
         insert(machine, fanout, entry.stage)?;
@@ -166,16 +180,16 @@ impl Judge {
         machine: &Machine,
         fanout: &mut Fanout,
         entry: &Entry<'_>,
-        width: u32,
+        settings: &Settings,
         into: &mut Vec<Certificate>,
     ) -> Result<Option<Outcome>, AddFault>
         requires fits { Fits machine.now entry.now.stage.now }
         requires knows { Knows machine.now fanout.old }
         ensures judged { IfOk result
-            (IsJudged machine.now entry.now.stage.now (by_claims machine.now width entry.now.stage.now)) }
-        ensures certificates { IfOk result (Certifying machine.now entry.now.number entry.now.stage.now into.old.items into.new.items) }
+            (IsJudged machine.now entry.now.stage.now (by_claims machine.now settings.now.width entry.now.stage.now)) }
+        ensures certificates { IfOk result (Certifying settings.now.proof machine.now entry.now.number entry.now.stage.now into.old.items into.new.items) }
         ensures knows { OnOk result (Knows machine.now fanout.new) }
-        ensures fault { IfErr result (MayFail (by_claims machine.now width entry.now.stage.now)) }
+        ensures fault { IfErr result (MayFail (by_claims machine.now settings.now.width entry.now.stage.now)) }
         ensures grown { Grow into.old.items into.new.items }
     {
         let names = claim_names(self.alloc, machine, fanout, entry.stage)?;
@@ -185,7 +199,8 @@ impl Judge {
             number: entry.number,
             stage: &sets,
             names: names.as_slice(),
-            width,
+            width: settings.width,
+            proof: settings.proof,
         };
         self.judge_named(&claims, into)
     }
@@ -200,7 +215,7 @@ impl Judge {
         requires names { AreNames claims.now.machine.now claims.now.stage.now claims.now.names.now }
         ensures judged { IfOk result
             (IsJudged claims.now.machine.now claims.now.stage.now (by_claims claims.now.machine.now claims.now.width claims.now.stage.now)) }
-        ensures certificates { IfOk result (Certifying claims.now.machine.now claims.now.number claims.now.stage.now into.old.items into.new.items) }
+        ensures certificates { IfOk result (Certifying claims.now.proof claims.now.machine.now claims.now.number claims.now.stage.now into.old.items into.new.items) }
         ensures fault { IfErr result (MayFail (by_claims claims.now.machine.now claims.now.width claims.now.stage.now)) }
         ensures grown { Grow into.old.items into.new.items }
     {
@@ -233,7 +248,7 @@ impl Judge {
             (IsJudged claims.now.machine.now claims.now.stage.now
             (measured claims.now.machine.now claims.now.width (claims_of claims.now.machine.now claims.now.stage.now)
             (decided claims.now.machine.now claims.now.stage.now))) }
-        ensures certificates { IfOk result (Certifying claims.now.machine.now claims.now.number claims.now.stage.now into.old.items into.new.items) }
+        ensures certificates { IfOk result (Certifying claims.now.proof claims.now.machine.now claims.now.number claims.now.stage.now into.old.items into.new.items) }
         ensures fault { IfErr result
             (MayFail (measured claims.now.machine.now claims.now.width (claims_of claims.now.machine.now claims.now.stage.now)
             (decided claims.now.machine.now claims.now.stage.now))) }
@@ -251,7 +266,7 @@ impl Judge {
             )? {
                 return Ok(Some(end));
             }
-            settled = self.settle(claims.number, name, settled, into)?;
+            settled = self.settle(claims.number, name, claims.proof, settled, into)?;
         }
         Ok(settled)
     }
@@ -262,17 +277,103 @@ impl Judge {
         &mut self,
         number: u32,
         name: &ClaimName,
+        proof: bool,
         settled: Option<Outcome>,
         into: &mut Vec<Certificate>,
     ) -> Result<Option<Outcome>, AllocError>
         requires { IsTrue (aig_ops.is_valid self.old.unroller.aig self.old.unroller.goal) }
         ensures settles { IfOk result (λ now. (m : MachineData) (q : Question) (width : ℕ) → IsMachine m → SidesFit m q.sides
-            → IsClaim m q width self.old.unroller → Settles m number (name.now, q) into.old.items into.new.items settled now) }
+            → IsClaim m q width self.old.unroller → Settles proof m number (name.now, q) into.old.items into.new.items settled now) }
         ensures grown { Grow into.old.items into.new.items }
     {
         match settled {
             Some(outcome) => Ok(Some(outcome)),
-            None => self.decide(number, name, into),
+            None => self.decide(number, name, proof, into),
         }
     }
+
+    /// Decides the claim that was built last, as the claim that the stage can idle. Where it holds, the answer is that the
+    /// stage is never idle.
+    fn decide_idle(&mut self) -> Result<Option<Outcome>, AllocError>
+        requires { IsTrue (aig_ops.is_valid self.old.unroller.aig self.old.unroller.goal) }
+        ensures { IfOk result (λ end. (m : MachineData) (q : Question) (width : ℕ) → IsMachine m → SidesFit m q.sides
+            → IsClaim m q width self.old.unroller → IsIdleDecided m q end) }
+    {
+        claim_laws();
+        match self
+            .decider
+            .decide(self.unroller.aig(), self.unroller.goal())?
+        {
+            Decision::Never(_, _) => Ok(Some(Outcome::NeverIdle)),
+            Decision::Sometimes(_) => Ok(None),
+        }
+    }
+
+    /// Decides the claim that was built last, as the claim of this name. Where it holds and proofs are wanted, its certificate is
+    /// put behind `into`; where it does not hold, the answer is that the stage is refuted by it.
+    fn decide(
+        &mut self,
+        number: u32,
+        name: &ClaimName,
+        proof: bool,
+        into: &mut Vec<Certificate>,
+    ) -> Result<Option<Outcome>, AllocError>
+        requires { IsTrue (aig_ops.is_valid self.old.unroller.aig self.old.unroller.goal) }
+        ensures decided { IfOk result (λ end. (m : MachineData) (q : Question) (width : ℕ) → IsMachine m → SidesFit m q.sides
+            → IsClaim m q width self.old.unroller → IsDecided proof m number (name.now, q) into.old.items into.new.items end) }
+        ensures grown { Grow into.old.items into.new.items }
+    {
+        claim_laws();
+        let shown = is_shown(&mut self.decider, &self.unroller, proof)?;
+        if shown {
+            return Ok(None);
+        }
+        match self
+            .decider
+            .decide(self.unroller.aig(), self.unroller.goal())?
+        {
+            Decision::Never(formula, log) => {
+                if !proof {
+                    return Ok(None);
+                }
+                into.push(Certificate {
+                    stage: number,
+                    claim: *name,
+                    formula,
+                    log,
+                })?;
+                Ok(None)
+            }
+            Decision::Sometimes(bits) => {
+                let bits = leaf_bits(self.alloc, self.unroller.leaves(), bits.as_slice())?;
+                Ok(Some(Outcome::Refuted(*name, bits)))
+            }
+        }
+    }
+}
+
+/// Whether the claim that was built last needs no search: no proof of it is wanted, and it is seen at once that it holds.
+fn is_shown(decider: &mut Decider, unroller: &Unroller, proof: bool) -> Result<bool, AllocError>
+    requires { IsTrue (aig_ops.is_valid unroller.now.aig unroller.now.goal) }
+    ensures { IfOk result (λ shown. shown ≡ true → (proof ≡ false) × IsNeverOne unroller.now.aig unroller.now.goal) }
+{
+    if proof {
+        return Ok(false);
+    }
+    decider.shows_never(unroller.aig(), unroller.goal())
+}
+
+/// Leaves with their bits.
+fn leaf_bits(alloc: Global, leaves: &[Leaf], bits: &[bool]) -> Result<Seq<LeafBit>, AllocError>
+    ensures leaves { IfOk result (λ seq. length bits.now ≡ length leaves.now → map (λ (b : LeafBit). b.leaf) seq ≡ leaves.now) }
+    ensures bits { IfOk result (λ seq. length bits.now ≡ length leaves.now → map (λ (b : LeafBit). b.bit) seq ≡ bits.now) }
+{
+    let mut seq = Seq::new(alloc);
+    for (leaf, bit) in leaves.iter().zip(bits) {
+        seq.push(LeafBit {
+            leaf: *leaf,
+            bit: *bit,
+        })?;
+    }
+    Ok(seq)
 }

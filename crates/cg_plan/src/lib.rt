@@ -6,23 +6,19 @@
 //!
 //! The modules:
 //!
-//! - `rules`: what stages are tried by.
 //! - `cells`: how a stage ends by its registers and its cells alone.
 //! - `claims`: the claims of a stage, by their names and as they are built, and how a stage ends by the measure of one.
-//! - `decide`: the decision of a claim that is built.
 //! - `insert`: what a stage adds to a machine.
-//! - `judge`: what tries stages one after another.
+//! - `judge`: what tries stages one after another, and decides a claim that is built.
 //! - `trial`: a stage that is tried on a machine.
 //! - `plan`: the plan of a machine, in the making and whole.
 #![tactic(auto)]
 
 mod cells;
 mod claims;
-mod decide;
 mod insert;
 mod judge;
 pub mod plan;
-mod rules;
 pub mod trial;
 
 /// Who is told how far a plan is.

@@ -1,10 +1,11 @@
 //! The plan of a machine, in the making and whole.
 
-ghost use Rattle.std.specs.Prelude.{◌≡◌, IfOk, IfErr, ◌+◌, [], if◌then◌else◌, length, MatchResult, OnOk};
+ghost use Rattle.std.specs.Prelude.{◌≡◌, IfOk, IfErr, ◌+◌, length, MatchResult, OnOk};
 ghost use Rattle.std.specs.Option.{option_copied};
 ghost use Rattle.cg_stage_list_laws.specs.Literals.{FitZeroCounts};
 ghost use Rattle.cg_plan_laws.specs.Plan.{plan_of, rounds, try_all, try_one};
 ghost use Rattle.cg_plan_laws.specs.Reported.{IsPlan, PlanMayFail};
+ghost use Rattle.cg_plan_laws.specs.declared.settings.Settings.{Settings};
 ghost use Rattle.cg_plan.specs.Planning.{AreWritable, IsSafePlan, told};
 ghost use Rattle.cg_stage_list_laws.specs.Fit.{AllFit};
 ghost use Rattle.cg_netlist.specs.declared.fault.AddFault.TheVariants.{NoMemory};
@@ -12,8 +13,7 @@ ghost use Rattle.cg_plan.specs.inner.Drafting.{IsDraft, Leads, MayStop, StillFit
 ghost use Rattle.cg_claim_reach.specs.Fanout.{Knows};
 ghost use Rattle.cg_stage_laws.specs.Stages.{Fits};
 
-use crate::judge::{Entry, Judge};
-use crate::rules::Rules;
+use crate::judge::{Entry, Judge, Rules};
 use cg_cell::library::Library;
 use cg_claim_reach::fanout::Fanout;
 use cg_hold::candidates::candidates;
@@ -82,7 +82,7 @@ pub fn make_plan(
             return Err(fault);
         }
     };
-    let mut draft = Draft::new(alloc, machine, settings.proof);
+    let mut draft = Draft::new(alloc, machine);
     let rules = Rules { library, settings };
     let result = draft.try_parts(found.stages, &rules, progress);
     progress.done();
@@ -125,26 +125,22 @@ struct Draft {
     /// The same stages, as a round reads them.
     earlier: Seq<Earlier>,
 
-    /// Whether the proofs of claims are kept.
-    proof: bool,
-
-    /// The proofs of the claims of the inserted stages, where they are kept.
+    /// The proofs of the claims of the inserted stages, where they are wanted.
     pub certificates: Vec<Certificate>,
 
     judge: Judge,
 }
 
 impl Draft {
-    /// A plan of which nothing was tried, whose proofs are kept or not.
-    pub fn new(alloc: Global, machine: Machine, proof: bool) -> Draft
-        ensures { IsDraft proof (unbegun machine) result }
+    /// A plan of which nothing was tried.
+    pub fn new(alloc: Global, machine: Machine) -> Draft
+        ensures { (settings : Settings) → IsDraft settings (unbegun machine) result }
     {
         Draft {
             alloc,
             machine,
             stages: Seq::new(alloc),
             earlier: Seq::new(alloc),
-            proof,
             certificates: Vec::new(alloc),
             judge: Judge::new(alloc),
         }
@@ -168,8 +164,8 @@ impl Draft {
         progress: &mut dyn Progress,
     ) -> Result<(), AddFault>
         requires { AllFit self.old.machine holds }
-        ensures leads { OnOk result (Leads (all_parts rules.now.library.now rules.now.settings.now holds) self.old self.new) }
-        ensures fault { IfErr result (MayStop (all_parts rules.now.library.now rules.now.settings.now holds) self.old) }
+        ensures leads { OnOk result (Leads rules.now.settings.now (all_parts rules.now.library.now rules.now.settings.now holds) self.old self.new) }
+        ensures fault { IfErr result (MayStop rules.now.settings.now (all_parts rules.now.library.now rules.now.settings.now holds) self.old) }
     {
         self.try_all(holds, rules, progress)?;
         self.rounds(StageKind::Stable, rules, progress)?;
@@ -184,8 +180,8 @@ impl Draft {
         progress: &mut dyn Progress,
     ) -> Result<(), AddFault>
         ensures leads { OnOk result
-            (Leads (rounds rules.now.library.now rules.now.settings.now kind rules.now.settings.now.rounds) self.old self.new) }
-        ensures fault { IfErr result (MayStop (rounds rules.now.library.now rules.now.settings.now kind rules.now.settings.now.rounds) self.old) }
+            (Leads rules.now.settings.now (rounds rules.now.library.now rules.now.settings.now kind rules.now.settings.now.rounds) self.old self.new) }
+        ensures fault { IfErr result (MayStop rules.now.settings.now (rounds rules.now.library.now rules.now.settings.now kind rules.now.settings.now.rounds) self.old) }
     {
         for _ in 0..rules.settings.rounds {
             let stages = self.candidates(kind, rules.settings)?;
@@ -222,8 +218,8 @@ impl Draft {
         progress: &mut dyn Progress,
     ) -> Result<(), AddFault>
         requires { AllFit self.old.machine stages }
-        ensures leads { OnOk result (Leads (λ p. try_all rules.now.library.now rules.now.settings.now p stages) self.old self.new) }
-        ensures fault { IfErr result (MayStop (λ p. try_all rules.now.library.now rules.now.settings.now p stages) self.old) }
+        ensures leads { OnOk result (Leads rules.now.settings.now (λ p. try_all rules.now.library.now rules.now.settings.now p stages) self.old self.new) }
+        ensures fault { IfErr result (MayStop rules.now.settings.now (λ p. try_all rules.now.library.now rules.now.settings.now p stages) self.old) }
     {
         // What reads the nets is found once for all of them, and grown with the machine.
         let mut fanout = Fanout::new(self.alloc);
@@ -243,8 +239,8 @@ impl Draft {
     ) -> Result<(), AddFault>
         requires fits { AllFit self.old.machine stages }
         requires knows { Knows self.old.machine fanout.old }
-        ensures leads { OnOk result (Leads (λ p. try_all rules.now.library.now rules.now.settings.now p stages) self.old self.new) }
-        ensures fault { IfErr result (MayStop (λ p. try_all rules.now.library.now rules.now.settings.now p stages) self.old) }
+        ensures leads { OnOk result (Leads rules.now.settings.now (λ p. try_all rules.now.library.now rules.now.settings.now p stages) self.old self.new) }
+        ensures fault { IfErr result (MayStop rules.now.settings.now (λ p. try_all rules.now.library.now rules.now.settings.now p stages) self.old) }
     {
         let listed = self.stages.len().saturating_add(stages.len());
         for stage in stages.into_vec() {
@@ -269,8 +265,8 @@ impl Draft {
         requires fits { Fits self.old.machine stage }
         requires knows { Knows self.old.machine fanout.old }
         ensures knows { OnOk result (Knows self.new.machine fanout.new) }
-        ensures leads { OnOk result (Leads (λ p. try_one rules.now.library.now rules.now.settings.now p stage) self.old self.new) }
-        ensures fault { IfErr result (MayStop (λ p. try_one rules.now.library.now rules.now.settings.now p stage) self.old) }
+        ensures leads { OnOk result (Leads rules.now.settings.now (λ p. try_one rules.now.library.now rules.now.settings.now p stage) self.old self.new) }
+        ensures fault { IfErr result (MayStop rules.now.settings.now (λ p. try_one rules.now.library.now rules.now.settings.now p stage) self.old) }
         ensures rest { OnOk result (StillFit stage self.old.machine self.new.machine) }
     {
         let _netlist = self.machine.netlist();
@@ -286,19 +282,8 @@ impl Draft {
             rules,
             &mut self.certificates,
         )?;
-        self.let_go();
         self.keep(stage, outcome)?;
         Ok(())
-    }
-
-    /// Lets the proofs of claims go, unless they are kept.
-    fn let_go(&mut self)
-        ensures rest { self.new ≡ record self.old { certificates = self.new.certificates } }
-        ensures certificates { self.new.certificates.items ≡ if self.old.proof then self.old.certificates.items else [] }
-    {
-        if !self.proof {
-            self.certificates.clear();
-        }
     }
 
     /// The number of the next stage, counted from 1.

@@ -5,8 +5,7 @@ ghost use Rattle.cg_machine.specs.Machine.{IsMachine};
 ghost use Rattle.cg_plan.specs.Trial.{IsRefused, IsTried};
 ghost use Rattle.cg_stage_laws.specs.Stages.{Fits};
 
-use crate::judge::{Entry, Judge};
-use crate::rules::Rules;
+use crate::judge::{Entry, Judge, Rules};
 use cg_cell::library::Library;
 use cg_claim_reach::fanout::Fanout;
 use cg_machine::machine::Machine;
@@ -19,8 +18,9 @@ use std::alloc::Global;
 
 /// Tries a stage that fits the machine, as the stage of this number, and inserts it where it deserves it.
 ///
-/// An inserted stage keeps the outputs of every run of the machine, and the certificates of its claims are put behind `into`,
-/// one for each claim in order. Any other outcome leaves the machine and `into` as they are.
+/// An inserted stage keeps the outputs of every run of the machine. Where the settings ask for proofs, the certificates of its
+/// claims are put behind `into`, one for each claim in order; else `into` stays as it is. Any other outcome leaves the machine
+/// and `into` as they are.
 ///
 /// It is refused by `Limit(ClaimNodes)` where the stage is large enough, the library has its cells, and a claim has more than
 /// 65,536 leaves and and-nodes while neither it nor one before it is too wide; and by `Limit(Nets)` or `Limit(Registers)` where

@@ -1,6 +1,6 @@
 //! The run: what a mode does, over the shelf.
 
-ghost use Rattle.std.specs.Prelude.{◌≡◌, IsTrue};
+ghost use Rattle.std.specs.Prelude.{IsTrue};
 ghost use Rattle.cg_run.specs.Promise.{Ended, EndsAs, Gains, KeepsOthers, LeavesShelf, UnlessFails, held_files};
 ghost use Rattle.cg_run.specs.Reads.{Gave, Reads};
 ghost use Rattle.cg_run.specs.Names.{name_of};

@@ -1,7 +1,7 @@
 //! What a mode puts out, and the writing half of a run: what reading came to is written, the stores in order and then the say, of
 //! which the first that is refused ends them; or one line of complaint tells why not.
 
-ghost use Rattle.std.specs.Prelude.{◌≡◌, ◌++◌, [], IsTrue};
+ghost use Rattle.std.specs.Prelude.{◌≡◌, []};
 ghost use Rattle.cg_run.specs.Names.{name_of};
 ghost use Rattle.cg_run.specs.Run.{Complains, PutsOut, Refuses, Tries};
 ghost use Rattle.cg_run.specs.Writes.{Writes};

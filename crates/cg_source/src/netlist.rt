@@ -1,7 +1,8 @@
 //! A circuit, with the cells of a library, by the form of its text.
 //!
 //! A further form is one more variant of [`NetlistForm`], one more case of `take_netlist` with what it is read as and why it is
-//! refused, as `take_blif` has them, and one of each definition in `specs/Netlist.antt`.
+//! refused, as `take_blif` has them, and one of each definition in `specs/Netlist.antt` with a file of its own, as
+//! `specs/Verilog.antt`.
 
 ghost use Rattle.cg_run.specs.Verdict.{Answers};
 ghost use Rattle.cg_source.specs.Netlist.{netlist_found};
@@ -71,16 +72,6 @@ fn take_blif(
     match read_as_blif(alloc, text, library, options) {
         Ok(netlist) => Ok(netlist),
         Err(fault) => Err(blif_trouble(alloc, fault)?),
-    }
-}
-
-/// The clock of the options, which has a name.
-fn clock_of(options: &BlifOptions) -> Option<&[u8]>
-    ensures { AllByRecursion (λ net. IsTrue (is_name net)) (option_to_list options.now.clock) }
-{
-    match &options.clock {
-        None => None,
-        Some(clock) => Some(clock.bytes()),
     }
 }
 
@@ -171,6 +162,16 @@ fn verilog_trouble(alloc: Global, fault: VerilogFault) -> Result<Trouble, AllocE
         VerilogFault::Net(fault) => net_trouble(alloc, fault),
         VerilogFault::Limit(limit) => Ok(Trouble::Limit(limit)),
         VerilogFault::NoMemory => Ok(Trouble::NoMemory),
+    }
+}
+
+/// The clock of the options, which has a name.
+fn clock_of(options: &BlifOptions) -> Option<&[u8]>
+    ensures { AllByRecursion (λ net. IsTrue (is_name net)) (option_to_list options.now.clock) }
+{
+    match &options.clock {
+        None => None,
+        Some(clock) => Some(clock.bytes()),
     }
 }
 

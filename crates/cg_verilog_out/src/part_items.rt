@@ -1,19 +1,19 @@
 //! The lines of logic cells, gating cells and registers.
 
-ghost use Rattle.std.specs.Prelude.{◌≡◌, ◌++◌, ◌∷◌, ◌<◌, ◌≤◌, [], ℕ, OnOk, Some, length, map, nat_lt, slice_get};
+ghost use Rattle.std.specs.Prelude.{◌≡◌, ◌++◌, ◌∷◌, ◌<◌, [], ℕ, OnOk, Some, length, slice_get};
 ghost use Rattle.std.specs.List.{flat_map};
 ghost use Rattle.cg_net.specs.Names.{net_name};
 ghost use Rattle.cg_netlist.specs.Circuit.{GatingCell, LogicCell, RegisterCell};
 ghost use Rattle.cg_netlist.specs.Netlist.{IsNetlist};
-ghost use Rattle.cg_netlist.specs.View.{cell_seen, function_seen, gater_seen, register_seen};
-ghost use Rattle.cg_netlist.specs.WellFormed.{FitsKind, IsOver};
-ghost use Rattle.cg_netlist.specs.Wiring.{map_cell, map_gater, map_register};
+ghost use Rattle.cg_netlist.specs.View.{cell_seen, register_seen};
+ghost use Rattle.cg_netlist.specs.WellFormed.{FitsKind};
+ghost use Rattle.cg_netlist.specs.Wiring.{map_cell, map_register};
 ghost use Rattle.cg_netlist.specs.declared.parts.RegisterKind.TheVariants.{Flop, Plain};
 ghost use Rattle.cg_netlist.specs.declared.parts.LogicFunction.TheVariants.{Cell};
-ghost use Rattle.cg_netlist_placed.specs.Within.{CellNets, GaterNets, RegisterNets};
+ghost use Rattle.cg_netlist_placed.specs.Within.{CellNets, RegisterNets};
 ghost use Rattle.cg_verilog_text.specs.Items.{Place};
 ghost use Rattle.cg_verilog_text.specs.Written.{item_line};
-ghost use Rattle.cg_verilog_text.specs.WrittenItems.{function_item, gater_item, init_items, kind_declared, kind_items};
+ghost use Rattle.cg_verilog_text.specs.WrittenItems.{function_item, init_items, kind_declared, kind_items};
 ghost use Rattle.cg_verilog_out.specs.Writing.{Writes, cell_items, declarations, flop_items, gater_items};
 ghost use Rattle.cg_verilog_out.specs.inner.Numbering.{left};
 ghost use Rattle.cg_verilog_out.specs.inner.OpenTerms.{IsOpen};

@@ -1,5 +1,5 @@
 -- What ties a plan in the making to the plan that it tells.
-use Rattle.std.specs.Prelude.{◌≡◌, Bool, if◌then◌else◌, List, [], ◌∷◌, ◌++◌, None}
+use Rattle.std.specs.Prelude.{◌≡◌, List, [], ◌∷◌, ◌++◌, None}
 use Rattle.cg_cell.specs.Cell.{CellData}
 use Rattle.cg_stage_list_laws.specs.Fit.{AllFit, AreApart}
 use Rattle.cg_stage_list_laws.specs.StableList.{stable_list}
@@ -11,39 +11,38 @@ use Rattle.cg_machine.specs.declared.stage.StageKind.{StageKind}
 use Rattle.cg_machine.specs.declared.stage.StageKind.TheVariants.{Stable, Unseen}
 use Rattle.cg_netlist.specs.declared.fault.AddFault.{AddFault}
 use Rattle.cg_plan_laws.specs.Plan.{Plan, earlier_of, is_inserted, rounds, try_all, unless_stopped}
-use Rattle.cg_plan_laws.specs.Reported.{AreCertified, AreTold, PlanMayFail, plan_claims}
+use Rattle.cg_plan_laws.specs.Reported.{AreCertified, AreTold, PlanMayFail, kept_claims}
 use Rattle.cg_plan_laws.specs.declared.outcome.Outcome.{Outcome}
 use Rattle.cg_plan_laws.specs.declared.settings.Settings.{Settings}
 use Rattle.cg_plan.specs.Planning.{AreWritable}
 use Rattle.cg_plan.specs.declared.plan.Draft.{Draft}
 
--- the draft tells this plan, which has not stopped, with proofs or without
-pub record IsDraft (proof : Bool) (p : Plan) (d : Draft) : Type 0 where
-  pub kept : d.proof ≡ proof
+-- the draft tells this plan, which has not stopped, with proofs where the settings ask for them
+pub record IsDraft (settings : Settings) (p : Plan) (d : Draft) : Type 0 where
   pub going : p.limit ≡ None
   pub machine : d.machine ≡ p.machine
   pub stages : AreTold p.turns d.stages
   pub earlier : d.earlier ≡ earlier_of p
-  pub certificates : AreCertified (if proof then plan_claims 1 p.turns else []) d.certificates.items
+  pub certificates : AreCertified (kept_claims settings p.turns) d.certificates.items
   pub writable : AreWritable d.certificates.items
 
 -- of each plan that the draft d tells, e tells what f makes of it
-abbrev pub Leads : (Plan → Plan) → Draft → Draft → Type 0
-Leads f d e = (proof : Bool) (p : Plan) → IsDraft proof p d → IsDraft proof (f p) e
+abbrev pub Leads : Settings → (Plan → Plan) → Draft → Draft → Type 0
+Leads settings f d e = (p : Plan) → IsDraft settings p d → IsDraft settings (f p) e
 
 -- a fault where f is made of a plan that the draft tells: the limit at which it stops, or want of memory
-abbrev pub MayStop : (Plan → Plan) → Draft → AddFault → Type 0
-MayStop f d fault = (proof : Bool) (p : Plan) → IsDraft proof p d → PlanMayFail (f p).limit fault
+abbrev pub MayStop : Settings → (Plan → Plan) → Draft → AddFault → Type 0
+MayStop settings f d fault = (p : Plan) → IsDraft settings p d → PlanMayFail (f p).limit fault
 
 -- a plan that the draft d tells, and of which g makes the plan that is wanted
-pub record Left (proof : Bool) (wanted : Plan) (g : Plan → Plan) (d : Draft) : Type 0 where
+pub record Left (settings : Settings) (wanted : Plan) (g : Plan → Plan) (d : Draft) : Type 0 where
   pub plan : Plan
-  pub tells : IsDraft proof plan d
+  pub tells : IsDraft settings plan d
   pub same : g plan ≡ wanted
 
 -- what is left between a plan that the draft c tells and what f makes of it is g, at the draft d
-abbrev pub IsLeft : (Plan → Plan) → (Plan → Plan) → Draft → Draft → Type 0
-IsLeft f g c d = (proof : Bool) (p : Plan) → IsDraft proof p c → Left proof (f p) g d
+abbrev pub IsLeft : Settings → (Plan → Plan) → (Plan → Plan) → Draft → Draft → Type 0
+IsLeft settings f g c d = (p : Plan) → IsDraft settings p c → Left settings (f p) g d
 
 -- one and then the other, unless the plan stops
 abbrev pub in_turn : (Plan → Plan) → (Plan → Plan) → Plan → Plan

@@ -1,5 +1,5 @@
 -- What comes of a stage by its claims, and the certificates of those claims.
-use Rattle.std.specs.Prelude.{◌≡◌, ℕ, false, List, Option, None, Some}
+use Rattle.std.specs.Prelude.{◌≡◌, ℕ, Bool, false, List, Option, None, Some}
 use Rattle.cg_machine.specs.Machine.{MachineData}
 use Rattle.cg_machine.specs.declared.stage.Stage.{Stage}
 use Rattle.cg_claim.specs.LeafBits.{is_never}
@@ -23,27 +23,27 @@ abbrev pub IsJudged : MachineData → Stage → Tried → Option Outcome → Typ
 IsJudged m s given (Some outcome) = TellsOutcome m s given outcome × (is_inserted outcome ≡ false)
 IsJudged m s given None = given ≡ unless_passed (limit_by s.kind m s)
 
--- all claims of a stage that does not end by them are certified
-abbrev pub Certifying : MachineData → ℕ → Stage → List Certificate → List Certificate → Option Outcome → Type 0
-Certifying m number s before after (Some outcome) = Unit {0}
-Certifying m number s before after None = AllCertified m number (claims_of m s) before after
+-- all claims of a stage that does not end by them are certified, where proofs are wanted
+abbrev pub Certifying : Bool → MachineData → ℕ → Stage → List Certificate → List Certificate → Option Outcome → Type 0
+Certifying proof m number s before after (Some outcome) = Unit {0}
+Certifying proof m number s before after None = AllCertified proof m number (claims_of m s) before after
 
--- all claims of a stage that is inserted are certified
-abbrev pub Pushes : MachineData → ℕ → Stage → List Certificate → List Certificate → Outcome → Type 0
-Pushes m number s before after Inserted = AllCertified m number (claims_of m s) before after
-Pushes m number s before after _ = Unit {0}
+-- all claims of a stage that is inserted are certified, where proofs are wanted
+abbrev pub Pushes : Bool → MachineData → ℕ → Stage → List Certificate → List Certificate → Outcome → Type 0
+Pushes proof m number s before after Inserted = AllCertified proof m number (claims_of m s) before after
+Pushes proof m number s before after _ = Unit {0}
 
 -- nothing is settled of a stage once these claims are done and others are left: it can idle, the first false claim is among
--- those left, and all that are done are certified
-pub record IsOpen (m : MachineData) (number : ℕ) (s : Stage) (done rest : List NamedClaim)
+-- those left, and all that are done are certified where proofs are wanted
+pub record IsOpen (proof : Bool) (m : MachineData) (number : ℕ) (s : Stage) (done rest : List NamedClaim)
     (before after : List Certificate) : Type 0 where
   pub idle : is_never m (idle_question s.enable) ≡ false
   pub left : first_false m rest ≡ first_false m (claims_of m s)
-  pub certified : AllCertified m number done before after
+  pub certified : AllCertified proof m number done before after
 
 -- what is settled of a stage once these claims are done and others are left: nothing yet, or how it ends where no claim that is
 -- left is too wide or too large
-abbrev pub IsSettled : MachineData → ℕ → Stage → List NamedClaim → List NamedClaim → List Certificate →
+abbrev pub IsSettled : Bool → MachineData → ℕ → Stage → List NamedClaim → List NamedClaim → List Certificate →
     List Certificate → Option Outcome → Type 0
-IsSettled m number s done rest before after None = IsOpen m number s done rest before after
-IsSettled m number s done rest before after (Some end) = IsJudged m s (decided m s) (Some end)
+IsSettled proof m number s done rest before after None = IsOpen proof m number s done rest before after
+IsSettled proof m number s done rest before after (Some end) = IsJudged m s (decided m s) (Some end)

@@ -1,8 +1,19 @@
 use Rattle.std.proofs.Common.{◌≡◌, length, refl, sym, ◌∙◌, ap}
 use Rattle.cg_hold.proofs.Decided.{never_decided, sometimes_decided}
 use Rattle.cg_plan_laws.specs.declared.certificate.Certificate.{Certificate}
-use Rattle.cg_plan.proofs.Deciding.{settled_bits, settled_never, proved_decided, writable_decided}
+use Rattle.cg_plan.proofs.Deciding.{proved_decided, settled_alone, settled_bits, settled_never, writable_decided}
 use Rattle.cg_plan.proofs.judge.Judge.decide.Goals as goal
+
+pub returns-then-shown-clause-decided : goal.returns-then-shown-clause-decided
+returns-then-shown-clause-decided c = λ m q width good fits is.
+    let shown = c.in_ok-shown.ensures c.if-shown.true in
+    settled_alone c.claim_laws.ensures.goal c.claim_laws.ensures.never m q width c.args.self.now.unroller good fits is c.args.proof c.args.number c.args.name.now c.args.into.now.items shown.0 shown.1
+
+pub returns-then-not-proof-clause-decided : goal.returns-then-not-proof-clause-decided
+returns-then-not-proof-clause-decided c = λ m q width good fits is.
+    let claim = c.args.self.now.unroller in
+    let never = never_decided c.aig.result.now claim.aig c.goal.result claim.goal c.in_ok-formula.field-0 c.in-Never.formula c.in-Never.log c.aig.ensures c.goal.ensures c.in_ok-formula.ensures.exactly c.in-Never.is in
+    settled_alone c.claim_laws.ensures.goal c.claim_laws.ensures.never m q width claim good fits is c.args.proof c.args.number c.args.name.now c.args.into.now.items c.if-not-proof.true never
 
 pub returns-in_ok-push-in-Never-clause-decided : goal.returns-in_ok-push-in-Never-clause-decided
 returns-in_ok-push-in-Never-clause-decided c = λ m q width good fits is.
@@ -14,8 +25,8 @@ returns-in_ok-push-in-Never-clause-decided c = λ m q width good fits is.
     let never = never_decided c.aig.result.now claim.aig c.goal.result claim.goal d f log c.aig.ensures c.goal.ensures c.in_ok-formula.ensures.exactly c.in-Never.is in
     let proved = proved_decided c.aig.result.now claim.aig c.goal.result claim.goal d f log c.aig.ensures c.goal.ensures c.in_ok-formula.ensures.proved c.in-Never.is in
     let written = writable_decided d f log c.in_ok-formula.ensures.writable c.in-Never.is in
-    settled_never c.claim_laws.ensures.goal c.claim_laws.ensures.never m q width claim good fits is c.args.number c.args.name.now c.args.into.now.items c.push.new.self.items certificate
-    never refl refl proved.0 proved.1 (record { formula = written.0; log = written.1 }) c.in_ok-push-in-Never.ensures.items
+    settled_never c.claim_laws.ensures.goal c.claim_laws.ensures.never m q width claim good fits is c.args.proof c.args.number c.args.name.now c.args.into.now.items c.push.new.self.items certificate
+    c.if-not-proof.false never refl refl proved.0 proved.1 (record { formula = written.0; log = written.1 }) c.in_ok-push-in-Never.ensures.items
 
 pub returns-in_ok-bits-in-Sometimes-clause-decided :
     goal.returns-in_ok-bits-in-Sometimes-clause-decided

@@ -60,6 +60,7 @@ loop-name-preserved c =
     let s = c.args.claims.now.stage.now in
     let w = c.args.claims.now.width in
     let number = c.args.claims.now.number in
+    let proof = c.args.claims.now.proof in
     let names = c.args.claims.now.names.now in
     let i = c.loop-name.name-index in
     let name = c.name-item.result in
@@ -76,11 +77,11 @@ loop-name-preserved c =
     let fits : NameFits m name = subst (NameFits m) (sym c.name-item.is) (c.requires.names.fit i name c.loop-name-test.true) in
     let built : IsClaim m q w c.measure.new.unroller = subst (IsBuilt m q w c.measure.new.unroller) c.in_default.is c.in_ok-end.ensures.built in
     let none : wide_end m w (named m s name) ≡ Ok None = subst (λ (end : Option Outcome). wide_end m w (named m s name) ≡ Ok end) c.in_default.is c.in_ok-end.ensures.end in
-    let open_before : IsSettled m number s (claims_named m s (take i names)) ((name, q) ∷ rest) before middle was = subst (λ (l : List NamedClaim). IsSettled m number s (claims_named m s (take i names)) l before middle was) claims c.loop-name.invariant.settled in
-    let next : Settles m number (name, q) middle after was now = c.in_ok-settled.ensures.settles m q w c.netlist-netlist.ensures.machine (sides_fit m s name fits) built in
+    let open_before : IsSettled proof m number s (claims_named m s (take i names)) ((name, q) ∷ rest) before middle was = subst (λ (l : List NamedClaim). IsSettled proof m number s (claims_named m s (take i names)) l before middle was) claims c.loop-name.invariant.settled in
+    let next : Settles proof m number (name, q) middle after was now = c.in_ok-settled.ensures.settles m q w c.netlist-netlist.ensures.machine (sides_fit m s name fits) built in
     record {
       left = sym (measured_on m w (name, q) rest (decided m s) none) ∙ (ap (λ (l : List NamedClaim). measured m w l (decided m s)) (sym claims) ∙ c.loop-name.invariant.left);
-      settled = subst (λ (l : List NamedClaim). IsSettled m number s l rest before after now) (sym (claims_to m s names i name at))
-          (settled_next m number s i name q (claims_named m s (take i names)) rest before middle after was now there open_before next);
+      settled = subst (λ (l : List NamedClaim). IsSettled proof m number s l rest before after now) (sym (claims_to m s names i name at))
+          (settled_next proof m number s i name q (claims_named m s (take i names)) rest before middle after was now there open_before next);
       grown = grow_on before middle after c.loop-name.invariant.grown c.settle.ensures.grown;
     }

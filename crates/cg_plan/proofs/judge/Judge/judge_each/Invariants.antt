@@ -9,6 +9,6 @@ use Rattle.cg_plan.proofs.judge.Judge.judge_each.Given as goal
 abbrev pub invariant-loop-name : goal.invariant-loop-name
 invariant-loop-name l = record {
   left : measured l.claims.machine.now l.claims.width (claims_named l.claims.machine.now l.claims.stage.now (drop l.name-index l.claims.names.now)) (decided l.claims.machine.now l.claims.stage.now) ≡ measured l.claims.machine.now l.claims.width (claims_of l.claims.machine.now l.claims.stage.now) (decided l.claims.machine.now l.claims.stage.now);
-  settled : IsSettled l.claims.machine.now l.claims.number l.claims.stage.now (claims_named l.claims.machine.now l.claims.stage.now (take l.name-index l.claims.names.now)) (claims_named l.claims.machine.now l.claims.stage.now (drop l.name-index l.claims.names.now)) l.fn.into.items l.into.items l.settled;
+  settled : IsSettled l.claims.proof l.claims.machine.now l.claims.number l.claims.stage.now (claims_named l.claims.machine.now l.claims.stage.now (take l.name-index l.claims.names.now)) (claims_named l.claims.machine.now l.claims.stage.now (drop l.name-index l.claims.names.now)) l.fn.into.items l.into.items l.settled;
   grown : Grow l.fn.into.items l.into.items;
 }

@@ -12,8 +12,8 @@ returns-then-is_empty-clause-leads g c =
     let settings = c.args.rules.now.settings.now in
     let kind = c.args.kind in
     let none : c.in_ok-stages.stages ≡ [] = no_stages c.in_ok-stages.stages (sym c.is_empty.ensures.none ∙ c.if-is_empty.true) in
-    left_none (rounds library settings kind settings.rounds) (rounds library settings kind (settings.rounds - c.loop.counter)) c.args.self.now c.loop.self c.loop.invariant
-    (λ proof p draft. no_rounds library settings kind (settings.rounds - c.loop.counter) p (sym (c.in_ok-stages.ensures.list ∙ list_reported kind settings proof p c.loop.self draft) ∙ none) draft.going)
+    left_none settings (rounds library settings kind settings.rounds) (rounds library settings kind (settings.rounds - c.loop.counter)) c.args.self.now c.loop.self c.loop.invariant
+    (λ p draft. no_rounds library settings kind (settings.rounds - c.loop.counter) p (sym (c.in_ok-stages.ensures.list ∙ list_reported kind settings p c.loop.self draft) ∙ none) draft.going)
 
 pub returns-in_err-try_all-clause-fault : goal.returns-in_err-try_all-clause-fault
 returns-in_err-try_all-clause-fault g c =
@@ -24,9 +24,9 @@ returns-in_err-try_all-clause-fault g c =
     let more : settings.rounds - c.loop.counter ≡ suc k = omega (arith, c.loop-test.true) in
     let fault = c.in_err-try_all.field-0.0 in
     let same : c.from_residual-in_err-try_all.result ≡ Err fault = search rules in
-    subst (λ (z : Result (Unit {0}) AddFault). IfErr z (MayStop (rounds library settings kind settings.rounds) c.args.self.now)) (sym same)
-    (left_stops (rounds library settings kind settings.rounds) (λ (p : Plan). try_all library settings p (list_by kind settings p)) (rounds library settings kind k) c.args.self.now c.loop.self fault
-    (subst (λ n. IsLeft (rounds library settings kind settings.rounds) (rounds library settings kind n) c.args.self.now c.loop.self) more c.loop.invariant)
+    subst (λ (z : Result (Unit {0}) AddFault). IfErr z (MayStop settings (rounds library settings kind settings.rounds) c.args.self.now)) (sym same)
+    (left_stops settings (rounds library settings kind settings.rounds) (λ (p : Plan). try_all library settings p (list_by kind settings p)) (rounds library settings kind k) c.args.self.now c.loop.self fault
+    (subst (λ n. IsLeft settings (rounds library settings kind settings.rounds) (rounds library settings kind n) c.args.self.now c.loop.self) more c.loop.invariant)
     (stops_round library settings kind c.in_ok-stages.stages c.loop.self fault c.in_ok-stages.ensures.list c.in_err-try_all.ensures.fault))
 
 pub loop-preserved : goal.loop-preserved
@@ -36,6 +36,6 @@ loop-preserved g c =
     let kind = c.args.kind in
     let k = settings.rounds - (c.loop.counter + 1) in
     let more : settings.rounds - c.loop.counter ≡ suc k = omega (arith, c.loop-test.true) in
-    left_more (rounds library settings kind settings.rounds) (λ (p : Plan). try_all library settings p (list_by kind settings p)) (rounds library settings kind k) c.args.self.now c.loop.self c.try_all.new.self
-    (subst (λ n. IsLeft (rounds library settings kind settings.rounds) (rounds library settings kind n) c.args.self.now c.loop.self) more c.loop.invariant)
+    left_more settings (rounds library settings kind settings.rounds) (λ (p : Plan). try_all library settings p (list_by kind settings p)) (rounds library settings kind k) c.args.self.now c.loop.self c.try_all.new.self
+    (subst (λ n. IsLeft settings (rounds library settings kind settings.rounds) (rounds library settings kind n) c.args.self.now c.loop.self) more c.loop.invariant)
     (leads_round library settings kind c.in_ok-stages.stages c.loop.self c.try_all.new.self c.in_ok-stages.ensures.list c.in_ok-try_all.ensures.leads)

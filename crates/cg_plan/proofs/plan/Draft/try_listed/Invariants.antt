@@ -11,5 +11,5 @@ invariant-loop-stage g l = record {
   count : into_iter_len l.stage-iterator ≡ length (into_iter_items l.stage-iterator);
   knows : Knows l.self.machine l.fanout;
   fit : AllFit l.self.machine (into_iter_items l.stage-iterator);
-  left : IsLeft (λ p. try_all l.rules.library.now l.rules.settings.now p (into_iter_items l.initial.stage-iterator)) (λ p. try_all l.rules.library.now l.rules.settings.now p (into_iter_items l.stage-iterator)) l.initial.self l.self;
+  left : IsLeft l.rules.settings.now (λ p. try_all l.rules.library.now l.rules.settings.now p (into_iter_items l.initial.stage-iterator)) (λ p. try_all l.rules.library.now l.rules.settings.now p (into_iter_items l.stage-iterator)) l.initial.self l.self;
 }

@@ -11,5 +11,5 @@ returns-clause-leads g c =
     let holds : Plan → Plan = λ p. try_all library settings p c.args.holds in
     let stable : Plan → Plan = rounds library settings Stable settings.rounds in
     let unseen : Plan → Plan = rounds library settings Unseen settings.rounds in
-    let begun : Leads (in_turn holds stable) c.args.self.now c.rounds.new.self = leads_on holds stable c.args.self.now c.try_all.new.self c.rounds.new.self c.in_ok-try_all.ensures.leads c.in_ok-rounds.ensures.leads in
-    leads_last c.rounds-2.result (in_turn holds stable) unseen c.args.self.now c.rounds.new.self c.rounds-2.new.self begun c.rounds-2.ensures.leads
+    let begun : Leads settings (in_turn holds stable) c.args.self.now c.rounds.new.self = leads_on settings holds stable c.args.self.now c.try_all.new.self c.rounds.new.self c.in_ok-try_all.ensures.leads c.in_ok-rounds.ensures.leads in
+    leads_last settings c.rounds-2.result (in_turn holds stable) unseen c.args.self.now c.rounds.new.self c.rounds-2.new.self begun c.rounds-2.ensures.leads

@@ -1,7 +1,7 @@
 use Rattle.std.proofs.Common.{slice_index_or}
 use Rattle.std.proofs.lemmas.Option.{slice_get-get_or}
 use Rattle.cg_net.proofs.Members.{member_at}
-use Rattle.cg_hold.proofs.literals.packed_all.Goals as goal
+use Rattle.cg_hold.proofs.choice.packed_all.Goals as goal
 
 pub pack-requires-clause-net : goal.pack-requires-clause-net
 pack-requires-clause-net c =

@@ -5,7 +5,7 @@ use Rattle.std.proofs.lemmas.List.{length-set}
 use Rattle.std.proofs.lemmas.Option.{slice_get_read}
 use Rattle.cg_net.specs.Marks.{AreMarked}
 use Rattle.cg_net.proofs.NetSetLemmas.{marked_more}
-use Rattle.cg_netlist_builder.proofs.finish.marks.Goals as goal
+use Rattle.cg_netlist_builder.proofs.parts.marks.Goals as goal
 
 pub loop-net-preserved : goal.loop-net-preserved
 loop-net-preserved c =

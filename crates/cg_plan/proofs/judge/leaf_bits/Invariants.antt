@@ -1,6 +1,6 @@
 use Rattle.std.proofs.Common.{◌≡◌, length, map, take}
 use Rattle.cg_claim.specs.declared.leaf.LeafBit.{LeafBit}
-use Rattle.cg_plan.proofs.decide.leaf_bits.Given as goal
+use Rattle.cg_plan.proofs.judge.leaf_bits.Given as goal
 
 abbrev pub invariant-loop-leaf : goal.invariant-loop-leaf
 invariant-loop-leaf l = record {

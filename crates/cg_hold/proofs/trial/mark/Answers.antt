@@ -4,8 +4,8 @@ use Rattle.cg_machine.specs.Claims.{Literal}
 use Rattle.cg_hold.specs.inner.Choosing.{IsLiteralOf}
 use Rattle.cg_hold.specs.inner.Looking.{AreMarked}
 use Rattle.cg_hold.proofs.Marked.{marked_at}
-use Rattle.cg_hold.proofs.marks.mark.Goals as goal
-use Rattle.cg_hold.proofs.marks.mark.Goals.{then-not-marked, else-not-marked}
+use Rattle.cg_hold.proofs.trial.mark.Goals as goal
+use Rattle.cg_hold.proofs.trial.mark.Goals.{then-not-marked, else-not-marked}
 
 pub show_move-moves-requires-clause-literal : goal.show_move-moves-requires-clause-literal
 show_move-moves-requires-clause-literal c =

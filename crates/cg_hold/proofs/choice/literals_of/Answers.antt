@@ -3,7 +3,7 @@ use Rattle.std.specs.Option.{option_copied}
 use Rattle.cg_stage_list_laws.specs.Literals.{both_literals, by_count}
 use Rattle.cg_machine.specs.Claims.{Literal}
 use Rattle.cg_hold.proofs.Ranked.{by_none}
-use Rattle.cg_hold.proofs.literals.literals_of.Goals as goal
+use Rattle.cg_hold.proofs.choice.literals_of.Goals as goal
 
 pub returns-in-None : goal.returns-in-None
 returns-in-None c =

@@ -1,5 +1,5 @@
 use Rattle.std.proofs.Common.{◌≡◌, ◌<◌, ℕ, true, Some, slice_get}
-use Rattle.cg_hold.proofs.marks.first_open.Given as goal
+use Rattle.cg_hold.proofs.trial.first_open.Given as goal
 
 abbrev pub invariant-loop-marked : goal.invariant-loop-marked
 invariant-loop-marked l = record {

@@ -7,7 +7,7 @@ use Rattle.cg_netlist.specs.View.{register_seen}
 use Rattle.cg_stage_groups.proofs.Steps.{used_within}
 use Rattle.cg_hold.proofs.OfRegister.{in_cone_of, nets_are, ordered_same, own_below}
 use Rattle.cg_net.specs.NetSets.{is_in}
-use Rattle.cg_hold.proofs.literals.nets_of.Goals as goal
+use Rattle.cg_hold.proofs.choice.nets_of.Goals as goal
 use Rattle.cg_net.proofs.FoundNets.{take_some}
 
 pub cone-requires : goal.cone-requires

@@ -3,7 +3,7 @@ use Rattle.std.proofs.lemmas.Option.{slice_get_read}
 use Rattle.cg_machine.specs.Claims.{Literal}
 use Rattle.cg_hold.specs.inner.Choosing.{IsLiteralOf}
 use Rattle.cg_hold.proofs.Marked.{MarkedTo, marked_more}
-use Rattle.cg_hold.proofs.marks.marks_of.Goals as goal
+use Rattle.cg_hold.proofs.trial.marks_of.Goals as goal
 
 pub show_move-moves-requires-clause-net : goal.show_move-moves-requires-clause-net
 show_move-moves-requires-clause-net c =

@@ -5,7 +5,7 @@ use Rattle.cg_machine.specs.Claims.{Literal}
 use Rattle.cg_net.specs.NetSets.{is_in}
 use Rattle.cg_hold.specs.inner.Packed.{unpacked}
 use Rattle.cg_hold.proofs.Ranked.{ranked_is}
-use Rattle.cg_hold.proofs.literals.ranked.Goals as goal
+use Rattle.cg_hold.proofs.choice.ranked.Goals as goal
 use Rattle.cg_netlist.proofs.Filtered.{in_filter}
 use Rattle.cg_netlist.proofs.Driven.{in_range}
 

@@ -75,11 +75,13 @@ fn push_measured(
     requires register { reg < length told.now.read.registers }
     ensures { OnOk result (regs.new.items ≡ (if is_measured (tried_of told.now) reg then regs.old.items ++ reg ∷ [] else regs.old.items)) }
 {
-    if seen_cause(told, tables, reg).is_some() {
-        return Ok(());
+    match seen_cause(told, tables, reg) {
+        Some(_) => Ok(()),
+        None => {
+            regs.push(reg)?;
+            Ok(())
+        }
     }
-    regs.push(reg)?;
-    Ok(())
 }
 
 /// The causes of all registers, with the widths of those whose hold claims are measured.

@@ -11,9 +11,9 @@ returns-in-Some c =
     let off : is_measured t c.args.reg ≡ false = ap is_none (sym c.seen_cause.ensures ∙ c.in-Some.is) in
     sym (ap (λ b. if b then old ++ c.args.reg ∷ [] else old) off)
 
-pub returns-in_ok-push : goal.returns-in_ok-push
-returns-in_ok-push c =
+pub returns-in_ok-push-in-None : goal.returns-in_ok-push-in-None
+returns-in_ok-push-in-None c =
     let t : Tried = tried_of c.args.told.now in
     let old : List ℕ = c.args.regs.now.items in
     let on : is_measured t c.args.reg ≡ true = ap is_none (sym c.seen_cause.ensures ∙ c.in-None.is) in
-    c.in_ok-push.ensures.items ∙ sym (ap (λ b. if b then old ++ c.args.reg ∷ [] else old) on)
+    c.in_ok-push-in-None.ensures.items ∙ sym (ap (λ b. if b then old ++ c.args.reg ∷ [] else old) on)

@@ -49,11 +49,7 @@ pub(crate) fn causes(
 }
 
 /// The registers whose hold claims are measured, in their order.
-fn measured_regs(
-    alloc: Global,
-    told: &Told<'_>,
-    tables: &Tables,
-) -> Result<Vec<RegId>, AllocError>
+fn measured_regs(alloc: Global, told: &Told<'_>, tables: &Tables) -> Result<Vec<RegId>, AllocError>
     requires tables { AreTables told.now tables.now }
     ensures { IfOk result (λ regs. regs.items ≡ measured_regs (tried_of told.now)) }
 {
@@ -105,13 +101,7 @@ fn causes_by(
 }
 
 /// The cause of a register, by the next of the widths where its hold claims are measured.
-fn cause(
-    told: &Told<'_>,
-    tables: &Tables,
-    reg: RegId,
-    widths: &[u64],
-    next: &mut usize,
-) -> Cause
+fn cause(told: &Told<'_>, tables: &Tables, reg: RegId, widths: &[u64], next: &mut usize) -> Cause
     requires tables { AreTables told.now tables.now }
     requires register { reg < length told.now.read.registers }
     requires width { is_measured (tried_of told.now) reg ≡ true → slice_get widths.now next.old ≡ Some (hold_width told.now.began reg) }

@@ -1,4 +1,4 @@
-use Rattle.std.proofs.Common.{◌++◌, ◌∷◌, [], ℕ, Bool, if◌then◌else◌, ap, sym, ◌∙◌}
+use Rattle.std.proofs.Common.{◌≡◌, ◌++◌, ◌∷◌, [], ℕ, Bool, if◌then◌else◌, ap, sym, ◌∙◌}
 use Rattle.cg_register_text.specs.Causes.{Tried}
 use Rattle.cg_register_text.specs.Words.{tried_of}
 use Rattle.cg_register_text.specs.inner.Finding.{is_measured}

@@ -27,7 +27,9 @@ use cg_list::Seq;
 use cg_netlist::netlist::Netlist;
 use cg_plan::progress::Progress;
 use cg_report::watcher::Watcher;
-use cg_run::{Finish, Names, Output, Owner, Refusal, Role, Status, Text, Trouble, collect, put_out};
+use cg_run::{
+    Finish, Names, Output, Owner, Refusal, Role, Status, Text, Trouble, collect, put_out,
+};
 use cg_shelf::Shelf;
 use cg_source::design::{Design, DesignFiles, design_files};
 use cg_source::refused::with_name;

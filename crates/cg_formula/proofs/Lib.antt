@@ -1,6 +1,7 @@
 pub mod Connectives
 pub mod Members
 pub mod TrueLiterals
+mod ClauseLists
 mod ReadingOn
 pub mod TokenSpelling
 pub mod DimacsExact

@@ -1,7 +1,8 @@
 -- Texts to which words and lines are added one by one.
-use Rattle.std.proofs.Common.{◌≡◌, ℕ, ◌<◌, ◌≤◌, List, [], ◌∷◌, ◌++◌, length, map, take, codes, sym, ap, ◌∙◌, append_assoc, arith}
-use Rattle.std.proofs.lemmas.List.{take_all}
-use Rattle.std.specs.List.{flat_map}
+use Rattle.std.proofs.Common.{◌≡◌, ℕ, ◌+◌, zero, suc, ◌<◌, ◌≤◌, List, [], ◌∷◌, ◌++◌, Some, length, map, take, codes, sym, ap, ◌∙◌}
+use Rattle.std.proofs.Common.{append_assoc, arith}
+use Rattle.std.proofs.lemmas.List.{take_all, append-nil}
+use Rattle.std.specs.List.{flat_map, slice_get}
 use Rattle.cg_text.specs.Written.{joined, line_text, text_of}
 use Rattle.cg_text.proofs.Written.{joined-last, joined-append, text_of-map}
 
@@ -39,3 +40,23 @@ pub lines_pushed : {X : Type 0} (f : X → List (List ℕ)) (front now : List �
 lines_pushed f front now xs i done so_far =
     so_far ∙ ap (λ xs. front ++ flat_map (λ x. line_text (f x)) xs) (take_all i xs done)
     ∙ ap (λ text. front ++ text) (sym (text_of-map f xs))
+
+-- one more line
+pub line_more : {X : Type 0} (f : X → List (List ℕ)) (front so_far text new : List ℕ) (xs : List X) (i : ℕ) (x : X) → slice_get xs i ≡ Some x
+    → so_far ≡ front ++ flat_map (λ x. line_text (f x)) (take i xs) → text ≡ so_far ++ joined (f x) → new ≡ text ++ 10 ∷ []
+    → new ≡ front ++ flat_map (λ x. line_text (f x)) (take (i + 1) xs)
+line_more f front so_far text new xs i x at before own end =
+    line_pushed so_far text new (f x) own end
+    ∙ ap (λ text. text ++ line_text (f x)) before
+    ∙ append_assoc front (flat_map (λ x. line_text (f x)) (take i xs)) (line_text (f x))
+    ∙ ap (λ text. front ++ text) (sym (taken f xs i x at) ∙ ap (λ k. flat_map (λ x. line_text (f x)) (take k xs)) (one_more i)) where
+      one_more : (i : ℕ) → suc i ≡ i + 1
+      one_more i = omega arith
+
+      taken : {X : Type 0} (f : X → List (List ℕ)) (xs : List X) (i : ℕ) (x : X) → slice_get xs i ≡ Some x
+          → flat_map (λ x. line_text (f x)) (take (suc i) xs) ≡ flat_map (λ x. line_text (f x)) (take i xs) ++ line_text (f x)
+      taken f [] i x at = absurd (cc)
+      taken f (y ∷ ys) zero x at = let same : y ≡ x = cc in rw same (append-nil (line_text (f x)))
+      taken f (y ∷ ys) (suc i) x at =
+          ap (λ text. line_text (f y) ++ text) (taken f ys i x at)
+          ∙ sym (append_assoc (line_text (f y)) (flat_map (λ x. line_text (f x)) (take i ys)) (line_text (f x)))

@@ -5,3 +5,4 @@ pub mod Bounds
 pub mod Tokens
 pub mod DimacsReading
 pub mod DimacsText
+pub mod inner

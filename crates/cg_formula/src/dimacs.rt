@@ -8,12 +8,13 @@ ghost use Rattle.cg_formula.specs.Bounds.{IsFormula};
 ghost use Rattle.cg_formula.specs.declared.formula.Formula.{Formula};
 ghost use Rattle.cg_formula.specs.declared.dimacs.DimacsFault.TheVariants.{NoMemory};
 ghost use Rattle.cg_formula.specs.DimacsText.{DimacsText, header_words, clause_words, dimacs_text};
+ghost use Rattle.cg_formula.specs.inner.ReadingOn.{lits_before};
 ghost use Rattle.cg_formula.specs.DimacsReading.{counts_of, header_of, clause_at, clauses_at, dimacs};
 
-use crate::formula::{Clause, Formula};
-use crate::token::{ClauseToken, push_clause, read_clause_token};
+use crate::clause_list::{ClauseList, push_end};
+use crate::formula::{Formula, Lit};
+use crate::token::{ClauseToken, push_lits, read_clause_token};
 use cg_limit::{Limit, MOST_VARIABLES};
-use cg_list::Seq;
 use cg_text::blanks::Blanks;
 use cg_text::lines::{Comments, Layout, Lines};
 use cg_text::number::{Number, push_number, read_number};
@@ -110,16 +111,15 @@ fn read_counts(variables: Number, clauses: Number) -> Result<Header, DimacsFault
     }
 }
 
-/// The literals up to the zero that ends the clause.
+/// Puts the literals up to the zero that ends the clause behind others.
 fn read_clause(
-    alloc: Global,
     tokens: &mut Tokens<'_>,
     variables: u32,
-) -> Result<Clause, DimacsFault>
-    ensures clause { OrNoMemory NoMemory (λ clause. (clause.lits, tokens.new.left)) result (clause_at variables tokens.old.end tokens.old.left) }
+    lits: &mut Vec<Lit>,
+) -> Result<(), DimacsFault>
+    ensures clause { OrNoMemory NoMemory (λ _. (lits.new.items, tokens.new.left)) result (lits_before lits.old.items (clause_at variables tokens.old.end tokens.old.left)) }
     ensures end { tokens.new.end ≡ tokens.old.end }
 {
-    let mut lits = Vec::new(alloc);
     'literals: loop {
         let token = match tokens.next_token() {
             Ok(token) => token,
@@ -131,9 +131,7 @@ fn read_clause(
             ClauseToken::Other => return Err(DimacsFault::BadClause(token.line)),
         }
     }
-    Ok(Clause {
-        lits: Seq::from_vec(lits),
-    })
+    Ok(())
 }
 
 /// The clauses that the header promises, and nothing behind them.
@@ -141,16 +139,18 @@ fn read_clauses(
     alloc: Global,
     tokens: &mut Tokens<'_>,
     header: Header,
-) -> Result<Seq<Clause>, DimacsFault>
+) -> Result<ClauseList, DimacsFault>
     ensures { OrNoMemory NoMemory (λ clauses. clauses) result (clauses_at header.variables tokens.old.end header.clauses tokens.old.left) }
 {
-    let mut clauses = Vec::new(alloc);
+    let mut lits = Vec::new(alloc);
+    let mut ends = Vec::new(alloc);
     for _done in 0..header.clauses {
-        clauses.push(read_clause(alloc, tokens, header.variables)?)?;
+        read_clause(tokens, header.variables, &mut lits)?;
+        push_end(lits.as_slice(), &mut ends)?;
     }
     match tokens.next_token() {
         Ok(token) => Err(DimacsFault::BadClause(token.line)),
-        Err(_) => Ok(Seq::from_vec(clauses)),
+        Err(_) => Ok(ClauseList::from_ends(lits, ends)),
     }
 }
 
@@ -196,16 +196,16 @@ pub fn write_dimacs(alloc: Global, formula: &Formula) -> Result<Vec<u8>, AllocEr
     let mut text = Vec::new(alloc);
     let count = formula.clauses.len();
     push_header(&mut text, formula.variables, count)?;
-    push_clauses(&mut text, formula.clauses.as_slice())?;
+    push_clauses(&mut text, &formula.clauses)?;
     Ok(text)
 }
 
 /// Puts the lines of clauses behind the text.
-fn push_clauses(text: &mut Vec<u8>, clauses: &[Clause]) -> Result<(), AllocError>
+fn push_clauses(text: &mut Vec<u8>, clauses: &ClauseList) -> Result<(), AllocError>
     ensures { OnOk result (text.new.items ≡ text.old.items ++ text_of (map clause_words clauses.now)) }
 {
-    for clause in clauses {
-        push_clause(text, clause)?;
+    for place in 0..clauses.len() {
+        push_lits(text, clauses.at(place))?;
         text.push(b'\n')?;
     }
     Ok(())

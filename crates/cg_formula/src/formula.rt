@@ -2,6 +2,7 @@
 
 ghost use Rattle.std.specs.Prelude.{◌≡◌};
 
+use crate::clause_list::ClauseList;
 use cg_list::Seq;
 
 /// A variable, or its inverse.
@@ -57,5 +58,5 @@ pub struct Formula {
     /// How many variables there are, at most 16,777,216.
     pub variables: u32,
     /// The clauses; the first has the id 1.
-    pub clauses: Seq<Clause>,
+    pub clauses: ClauseList,
 }

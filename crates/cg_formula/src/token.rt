@@ -64,7 +64,14 @@ fn push_lit(text: &mut Vec<u8>, lit: Lit) -> Result<(), AllocError>
 pub fn push_clause(text: &mut Vec<u8>, clause: &Clause) -> Result<(), AllocError>
     ensures { OnOk result (text.new.items ≡ text.old.items ++ joined (clause_words clause.now)) }
 {
-    for lit in clause.lits.as_slice() {
+    push_lits(text, clause.lits.as_slice())
+}
+
+/// Puts the words of a clause with these literals behind the text, up to its zero.
+pub(crate) fn push_lits(text: &mut Vec<u8>, lits: &[Lit]) -> Result<(), AllocError>
+    ensures { OnOk result (text.new.items ≡ text.old.items ++ joined (clause_words (record { lits = lits.now }))) }
+{
+    for lit in lits {
         push_lit(text, *lit)?;
     }
     text.push(b'0')?;

@@ -4,6 +4,6 @@ use Rattle.cg_text.specs.Written.{line_text}
 use Rattle.cg_formula.specs.DimacsText.{clause_words}
 use Rattle.cg_formula.proofs.dimacs.push_clauses.Given as goal
 
-abbrev pub invariant-loop-clause : goal.invariant-loop-clause
-invariant-loop-clause l =
-    l.text.items ≡ l.fn.text.items ++ flat_map (λ clause. line_text (clause_words clause)) (take l.clause-index l.clauses)
+abbrev pub invariant-loop-place : goal.invariant-loop-place
+invariant-loop-place l =
+    l.text.items ≡ l.fn.text.items ++ flat_map (λ clause. line_text (clause_words clause)) (take l.place l.clauses)

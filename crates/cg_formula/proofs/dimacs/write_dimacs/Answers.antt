@@ -5,7 +5,7 @@ use Rattle.cg_formula.proofs.dimacs.write_dimacs.Goals as goal
 
 pub returns-clause-written : goal.returns-clause-written
 returns-clause-written c =
-    c.in_ok-push_clauses.ensures ∙ rw (c.in_ok-push_header.ensures, c.new-text.ensures.items, c.as_slice.ensures.parts, c.len-count.ensures.count) refl
+    c.in_ok-push_clauses.ensures ∙ rw (c.in_ok-push_header.ensures, c.new-text.ensures.items, c.len-count.ensures.count) refl
 
 pub returns-clause-again : goal.returns-clause-again
 returns-clause-again c =

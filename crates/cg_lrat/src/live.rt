@@ -8,8 +8,7 @@ ghost use Rattle.cg_lrat.specs.Accepted.{with_clauses};
 ghost use Rattle.cg_lrat.specs.inner.LiveTable.{is_kept, kept_clause};
 
 use crate::added::AddedClauses;
-use cg_formula::{Clause, Lit};
-use cg_list::Seq;
+use cg_formula::{ClauseList, Lit};
 use std::alloc::{AllocError, Global};
 
 /// The live clauses. They are borrowed from the formula and the log, and not copied.
@@ -18,7 +17,7 @@ use std::alloc::{AllocError, Global};
 /// the table of ids holds added clauses alone.
 #[derive(Drop)]
 pub struct LiveClauses<'a> {
-    given: &'a Seq<Clause>,
+    given: &'a ClauseList,
     // For each clause of the formula whether it is live still.
     kept: Vec<bool>,
     added: AddedClauses<'a>,
@@ -28,7 +27,7 @@ impl<'a> LiveClauses<'a> {
     ghost use Rattle.cg_lrat.specs.inner.LiveTable.{live_in};
 
     /// These clauses are live, under the ids from 1 on.
-    pub fn new(alloc: Global, given: &'a Seq<Clause>) -> Result<Self, AllocError>
+    pub fn new(alloc: Global, given: &'a ClauseList) -> Result<Self, AllocError>
         ensures { IfOk result (λ live. live_in live ≡ with_clauses 1 given.entry.now (λ _. None)) }
     {
         let kept = all_kept(alloc, given.len())?;
@@ -77,16 +76,13 @@ fn all_kept(alloc: Global, count: usize) -> Result<Vec<bool>, AllocError>
 }
 
 /// The clause of the formula with this id, if it is live still.
-fn kept_clause<'a>(given: &'a Seq<Clause>, kept: &[bool], id: u64) -> Option<&'a [Lit]>
+fn kept_clause<'a>(given: &'a ClauseList, kept: &[bool], id: u64) -> Option<&'a [Lit]>
     ensures { MatchOption result (kept_clause given.entry.now kept.now id ≡ None) (λ clause. kept_clause given.entry.now kept.now id ≡ Some clause.now) }
 {
     if !is_kept(kept, id) {
         return None;
     }
-    match given.as_slice().get((id - 1) as usize) {
-        Some(clause) => Some(clause.lits.as_slice()),
-        None => None,
-    }
+    given.get((id - 1) as usize)
 }
 
 /// Whether the clause of the formula with this id is live still.

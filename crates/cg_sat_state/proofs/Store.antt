@@ -1,8 +1,9 @@
 -- A store with one clause more or less, and what the checker holds live then.
 use Rattle.std.proofs.Common.{◌≡◌, ℕ, ◌+◌, zero, suc, ◌<◌, Bool, true, false, List, [], ◌∷◌, ◌++◌, Some, None}
-use Rattle.std.proofs.Common.{◌⊎◌, inl, inr, refl, sym, ap, ◌∙◌, subst, map, length, length-append, append_assoc, append-nil}
+use Rattle.std.proofs.Common.{◌⊎◌, inl, inr, refl, sym, ap, ◌∙◌, subst, map, take, length, length-append, append_assoc, append-nil}
 use Rattle.std.proofs.Common.{add-one, nat_eq, arith, rules, if◌then◌else◌}
 use Rattle.std.specs.Map.{update}
+use Rattle.std.specs.List.{slice_get}
 use Rattle.std.proofs.lemmas.Bool.{eqb-true}
 use Rattle.std.proofs.Math.Path.{fun_ext}
 use Rattle.cg_formula.specs.declared.formula.Lit.{Lit}
@@ -118,3 +119,12 @@ first_is formula =
     let start : with_clauses 1 formula.clauses (live_of []) ≡ live_of (given formula) = clauses_live formula.clauses [] 0 refl in
     let live : with_clauses 1 formula.clauses nothing ≡ live_of (given formula) = ap (λ l. with_clauses 1 formula.clauses l) nothing_live ∙ start in
     ap (λ l. make_state l (length formula.clauses)) live ∙ ap (λ n. make_state (live_of (given formula)) n) (length_given formula.clauses)
+
+-- one more clause of a formula
+pub given_more : (clauses : List Clause) (place : ℕ) (lits : List Lit) → slice_get clauses place ≡ Some (record { lits = lits })
+    → map (λ (clause : Clause). Some clause.lits) (take (suc place) clauses) ≡ map (λ (clause : Clause). Some clause.lits) (take place clauses) ++ Some lits ∷ []
+given_more [] place lits at = absurd (cc)
+given_more (c ∷ cs) zero lits at =
+    let same : c ≡ (let clause : Clause = record { lits = lits } in clause) = cc in
+    ap (λ (clause : Clause). Some clause.lits ∷ []) same
+given_more (c ∷ cs) (suc place) lits at = ap (λ clauses. Some c.lits ∷ clauses) (given_more cs place lits at)

@@ -1,17 +1,18 @@
 //! The clauses that a search works with.
 
-ghost use Rattle.std.specs.Prelude.{◌≡◌, ◌+◌, ◌<◌, ◌^◌, Some, None, [], ◌∷◌, ◌++◌, length, MatchOption, OnOk, OnErr};
+ghost use Rattle.std.specs.Prelude.{◌≡◌, ◌+◌, ◌<◌, ◌^◌, Some, None, true, [], ◌∷◌, ◌++◌, length, MatchOption, IfOk, OnOk, OnErr};
 ghost use Rattle.cg_sat_state.specs.Store.{clause_at, IsWithout};
 
 use cg_formula::Lit;
 use std::alloc::{AllocError, Global};
 use std::marker::Model;
 
-/// Where the literals of a clause stand.
+/// Where the literals of a clause stand. A place has 32 bits, so that there are at most 2^32 - 1 literals: for more,
+/// memory is wanting.
 #[derive(Clone, Copy)]
 struct Span {
-    from: usize,
-    to: usize,
+    from: u32,
+    to: u32,
     // Whether the clause was not taken away.
     live: bool,
 }
@@ -78,7 +79,7 @@ impl Clauses {
         if !span.live {
             return None;
         }
-        Some(&self.lits.as_slice()[span.from..span.to])
+        Some(&self.lits.as_slice()[span.from as usize..span.to as usize])
     }
 
     /// Puts a clause behind the others. Where memory is wanting nothing changes.
@@ -86,13 +87,8 @@ impl Clauses {
         ensures added { OnOk result (self.new ≡ self.old ++ Some lits.now ∷ []) }
         ensures same { OnErr result (self.new ≡ self.old) }
     {
-        let from = self.lits.len();
+        let span = span_behind(self.lits.len(), lits.len())?;
         self.lits.extend_from_slice(lits)?;
-        let span = Span {
-            from,
-            to: self.lits.len(),
-            live: true,
-        };
         self.spans.push(span)?;
         Ok(())
     }
@@ -113,4 +109,19 @@ impl Clauses {
         self.spans.clear();
         self.lits.clear();
     }
+}
+
+/// The span of a clause of so many literals, put behind so many others.
+fn span_behind(others: usize, count: usize) -> Result<Span, AllocError>
+    ensures { IfOk result (λ span. span ≡ record { from = others; to = others + count; live = true }) }
+{
+    let most = u32::MAX as usize;
+    if others > most || count > most - others {
+        return Err(AllocError);
+    }
+    Ok(Span {
+        from: others as u32,
+        to: (others + count) as u32,
+        live: true,
+    })
 }

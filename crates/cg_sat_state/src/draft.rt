@@ -137,8 +137,8 @@ fn put_clauses(clauses: &mut Clauses, formula: &Formula) -> Result<(), AllocErro
     ensures { OnOk result (clauses.new ≡ given formula.now) }
 {
     clauses.clear();
-    for clause in formula.clauses.as_slice() {
-        clauses.push(clause.lits.as_slice())?;
+    for place in 0..formula.clauses.len() {
+        clauses.push(formula.clauses.at(place))?;
     }
     Ok(())
 }

@@ -1,4 +1,4 @@
-use Rattle.std.proofs.Common.{◌≡◌, ◌+◌, ◌∷◌, [], ◌++◌, ◌∙◌, Some, true, ap, length, length-append, arith}
+use Rattle.std.proofs.Common.{◌≡◌, ◌+◌, ◌∷◌, [], ◌++◌, ◌∙◌, Some, true, refl, ap, length, length-append, arith}
 use Rattle.cg_sat_state.specs.declared.clauses.Span.{Span}
 use Rattle.cg_sat_state.specs.inner.Arena.{held, store_of}
 use Rattle.cg_sat_state.proofs.Arena.{range_last, store_longer, within_longer, within_pushed, store_pushed, on_err}
@@ -17,20 +17,18 @@ invariant_of-self-2 c =
     let more = c.args.lits.now in
     let long : length (lits ++ more) ≡ length lits + length more = length-append lits more in
     let all = within_longer (length lits) (length (lits ++ more)) c.self.inside.spans.items (omega (arith, long)) c.self.invariant in
-    let low : c.len-from.result ≡ length lits = omega (arith, c.len-from.ensures) in
-    let high : c.len.result ≡ length lits + length more = omega (arith, c.len.ensures, c.in_ok-extend_from_slice.ensures.len) in
-    rw (c.in_ok-extend_from_slice.ensures.items, c.in_ok-push.ensures.items) (within_pushed (length (lits ++ more)) c.self.inside.spans.items _ all
-    (record { ordered = omega (arith, low, high); within = omega (arith, long, low, high) }))
+    let low : c.len.result ≡ length lits = omega (arith, c.len.ensures) in
+    rw (c.in_ok-extend_from_slice.ensures.items, c.in_ok-push.ensures.items, c.in_ok-span.ensures, low) (within_pushed (length (lits ++ more)) c.self.inside.spans.items _ all
+    (record { ordered = omega (arith, long); within = omega (arith, long) }))
 
 pub returns-clause-added : goal.returns-clause-added
 returns-clause-added c =
     let lits = c.self.inside.lits.items in
     let more = c.args.lits.now in
     let spans = c.self.inside.spans.items in
-    let span : Span = record { from = c.len-from.result; to = c.len.result; live = true } in
-    let low : c.len-from.result ≡ length lits = omega (arith, c.len-from.ensures) in
-    let high : c.len.result ≡ length lits + length more = omega (arith, c.len.ensures, c.in_ok-extend_from_slice.ensures.len) in
-    let last : held (lits ++ more) span ≡ Some more = rw low (ap Some (range_last lits more c.len.result high)) in
+    let low : c.len.result ≡ length lits = omega (arith, c.len.ensures) in
+    let span : Span = record { from = length lits; to = length lits + length more; live = true } in
+    let last : held (lits ++ more) span ≡ Some more = ap Some (range_last lits more (length lits + length more) refl) in
     let whole : store_of (lits ++ more) (spans ++ span ∷ []) ≡ store_of lits spans ++ Some more ∷ [] =
     store_pushed (lits ++ more) spans span ∙ ap (λ cs. cs ++ held (lits ++ more) span ∷ []) (store_longer lits more spans c.self.invariant) ∙ ap (λ h. store_of lits spans ++ h ∷ []) last in
-    rw (c.in_ok-extend_from_slice.ensures.items, c.in_ok-push.ensures.items, ← c.self.view_is) whole
+    rw (c.in_ok-extend_from_slice.ensures.items, c.in_ok-push.ensures.items, c.in_ok-span.ensures, low, ← c.self.view_is) whole

@@ -1,20 +1,20 @@
 -- Bits and the clauses that they satisfy.
 use Rattle.std.proofs.Common.{◌≡◌, ℕ, ◌+◌, ◌-◌, zero, suc, ◌<◌, ◌≤◌, Bool, true, false, not, List, [], ◌∷◌}
-use Rattle.std.proofs.Common.{Some, inl, inr, refl, sym, ap, ◌∙◌, subst, length, map, arith}
+use Rattle.std.proofs.Common.{Some, inl, inr, refl, sym, ap, ◌∙◌, subst, length, map, take, arith}
 use Rattle.std.proofs.Common.{if◌then◌else◌}
-use Rattle.std.specs.List.{slice_get, list_any, AllByRecursion, slice_index_or}
+use Rattle.std.specs.List.{slice_get, list_any, list_all, AllByRecursion, slice_index_or}
 use Rattle.cg_formula.specs.declared.formula.Lit.{Lit}
 use Rattle.cg_formula.specs.declared.formula.Clause.{Clause}
 use Rattle.cg_formula.specs.declared.formula.Formula.{Formula}
 use Rattle.cg_formula.specs.Lits.{inverse, same_lit, is_in}
 use Rattle.cg_formula.specs.Bounds.{IsLit, IsClause, IsFormula}
-use Rattle.cg_formula.specs.Satisfiable.{lit_bit}
+use Rattle.cg_formula.specs.Satisfiable.{lit_bit, clause_bit}
 use Rattle.cg_formula.proofs.Members.{same_lit_equal}
 use Rattle.cg_formula.specs.Assignments.{IsUnassigned}
 use Rattle.cg_sat_state.specs.declared.trail.Entry.{Entry}
 use Rattle.cg_sat_state.specs.Store.{Store, clause_at, given}
 use Rattle.cg_sat.specs.inner.Search.{ShowsBits, IsSearch, HasPrefix}
-use Rattle.std.proofs.lemmas.Bool.{or_cases}
+use Rattle.std.proofs.lemmas.Bool.{and_parts, or_cases}
 
 all_at : {X : Type 0} (P : X → Type 0) (xs : List X) (k : ℕ) (x : X) → AllByRecursion P xs → slice_get xs k ≡ Some x → P x
 all_at P [] k x all e = absurd (cc)
@@ -109,3 +109,12 @@ measure_down w old new true true h k = omega arith
 measure_down w old new true false h k = omega arith
 measure_down w old new false true h k = omega arith
 measure_down w old new false false h k = omega arith
+
+-- one more clause is satisfied
+pub satisfied_more : (bits : List Bool) (clauses : List Clause) (place : ℕ) (clause : Clause) → slice_get clauses place ≡ Some clause → clause_bit bits clause ≡ true
+    → list_all (clause_bit bits) (take place clauses) ≡ true → list_all (clause_bit bits) (take (suc place) clauses) ≡ true
+satisfied_more bits [] place clause at on all = absurd (cc)
+satisfied_more bits (c ∷ cs) zero clause at on all = let same : c ≡ clause = cc in rw (same, on) refl
+satisfied_more bits (c ∷ cs) (suc place) clause at on all =
+    let parts = and_parts (clause_bit bits c) (list_all (clause_bit bits) (take place cs)) all in
+    rw (parts.0, satisfied_more bits cs place clause at on parts.1) refl

@@ -84,9 +84,9 @@ fn unsatisfied(formula: &Formula, bits: &[bool]) -> Option<usize>
     requires long { length bits.now ≡ formula.now.variables }
     ensures { MatchOption result (formula_bit bits.now formula.now ≡ true) (IsUnsatisfied bits.now formula.now) }
 {
-    for (at, clause) in formula.clauses.as_slice().iter().enumerate() {
-        if !is_satisfied(bits, clause.lits.as_slice()) {
-            return Some(at);
+    for place in 0..formula.clauses.len() {
+        if !is_satisfied(bits, formula.clauses.at(place)) {
+            return Some(place);
         }
     }
     None
@@ -109,8 +109,7 @@ fn last_choice(
     let Some(place) = unsatisfied(formula, bits.as_slice()) else {
         return Ok(Choice::Done(bits));
     };
-    let clause = formula.clauses.as_slice();
-    match open_lit(trail, clause[place].lits.as_slice()) {
+    match open_lit(trail, formula.clauses.at(place)) {
         Some(lit) => Ok(Choice::Decide(lit)),
         None => Ok(Choice::Refute(place)),
     }

@@ -1,21 +1,20 @@
-use Rattle.std.proofs.Common.{◌≡◌, true, Some, arith, length, subst, refl}
-use Rattle.std.specs.List.{slice_get}
-use Rattle.std.proofs.lemmas.Option.{slice_get_read}
-use Rattle.cg_formula.specs.Lits.{is_in}
-use Rattle.cg_sat.proofs.Chosen.{clause_named}
+use Rattle.std.proofs.Common.{◌≡◌, ◌+◌, suc, true, arith}
+use Rattle.cg_formula.specs.declared.formula.Clause.{Clause}
+use Rattle.cg_formula.specs.Satisfiable.{clause_bit}
+use Rattle.cg_sat.proofs.Chosen.{clause_named, satisfied_more}
 use Rattle.cg_sat.proofs.choose.unsatisfied.Goals as goal
 
 pub is_satisfied-requires : goal.is_satisfied-requires
 is_satisfied-requires c lit e =
-    let items = c.as_slice-clause-items.result.now in
-    let read : slice_get items c.loop-at.at ≡ Some c.clause-item.result = slice_get_read items (length items) c.loop-at.at c.clause-item.result refl (omega arith) c.clause-item.is in
-    let at : slice_get c.args.formula.now.clauses c.loop-at.at ≡ Some c.clause-item.result = subst (λ cs. slice_get cs c.loop-at.at ≡ Some c.clause-item.result) c.as_slice-clause-items.ensures.parts read in
-    let named = clause_named c.args.formula.now c.loop-at.at c.clause-item.result lit c.requires.formula at (subst (λ ls. is_in lit ls ≡ true) c.as_slice.ensures.parts e) in
+    let named = clause_named c.args.formula.now c.loop-place.place (record { lits = c.at.result.now }) lit c.requires.formula c.at.ensures.clause e in
     (named.0, omega (arith, named.1, c.requires.long))
 
+pub loop-place-preserved : goal.loop-place-preserved
+loop-place-preserved c =
+    let clause : Clause = record { lits = c.at.result.now } in
+    let on : clause_bit c.args.bits.now clause ≡ true = cc in
+    let next : c.loop-place.place + 1 ≡ suc c.loop-place.place = omega arith in
+    rw next (satisfied_more c.args.bits.now c.args.formula.now.clauses c.loop-place.place clause c.at.ensures.clause on c.loop-place.invariant)
+
 pub returns-then-not-is_satisfied : goal.returns-then-not-is_satisfied
-returns-then-not-is_satisfied c =
-    let items = c.as_slice-clause-items.result.now in
-    let read : slice_get items c.loop-at.at ≡ Some c.clause-item.result = slice_get_read items (length items) c.loop-at.at c.clause-item.result refl (omega arith) c.clause-item.is in
-    let at : slice_get c.args.formula.now.clauses c.loop-at.at ≡ Some c.clause-item.result = subst (λ cs. slice_get cs c.loop-at.at ≡ Some c.clause-item.result) c.as_slice-clause-items.ensures.parts read in
-    record { clause = c.clause-item.result; is = at; off = cc }
+returns-then-not-is_satisfied c = record { clause = record { lits = c.at.result.now }; is = c.at.ensures.clause; off = cc }

@@ -7,8 +7,7 @@ ghost use Rattle.cg_formula.specs.Satisfiable.{IsSatisfiable, Satisfies};
 ghost use Rattle.cg_cnf.specs.Clauses.{IsOneAt, clause_of, formula_of, goal_clauses, lit_of, node_clauses};
 
 use cg_aig::{Aig, AigLit};
-use cg_formula::{Clause, Formula, Lit};
-use cg_list::Seq;
+use cg_formula::{ClauseList, Formula, Lit};
 use std::alloc::{AllocError, Global};
 
 /// The formula of a goal, which is a literal of the list.
@@ -24,13 +23,14 @@ pub fn formula(alloc: Global, aig: &Aig, goal: AigLit) -> Result<Formula, AllocE
     ensures only_if_one { IfOk result (λ made. (model : List Bool) → Satisfies model made → IsOneAt aig.now goal (take aig.now.number model)) }
 {
     let first = 1 + aig.leaves();
-    let room = 3 * aig.ands() as usize + 1;
-    let mut clauses = Seq::from_vec(Vec::with_capacity(alloc, room)?);
+    let nodes = aig.ands() as usize;
+    // Each node has two clauses of two literals and one of three; the goal has at most one literal.
+    let mut clauses = ClauseList::with_capacity(alloc, 3 * nodes + 1, 7 * nodes + 1)?;
     'nodes: for k in 0..aig.ands() {
         let (a, b) = aig.pair(k);
-        push_node(alloc, first + k, a, b, &mut clauses)?;
+        push_node(first + k, a, b, &mut clauses)?;
     }
-    push_goal(alloc, goal, &mut clauses)?;
+    push_goal(goal, &mut clauses)?;
     Ok(Formula {
         variables: aig.leaves() + aig.ands(),
         clauses,
@@ -38,13 +38,7 @@ pub fn formula(alloc: Global, aig: &Aig, goal: AigLit) -> Result<Formula, AllocE
 }
 
 /// Puts the clauses of an and-node behind the others.
-fn push_node(
-    alloc: Global,
-    node: u32,
-    a: AigLit,
-    b: AigLit,
-    clauses: &mut Seq<Clause>,
-) -> Result<(), AllocError>
+fn push_node(node: u32, a: AigLit, b: AigLit, clauses: &mut ClauseList) -> Result<(), AllocError>
     ensures { OnOk result (clauses.new ≡ clauses.old ++ node_clauses node (a, b)) }
 {
     let lit = Lit {
@@ -53,31 +47,21 @@ fn push_node(
     };
     let left = lit_of(a);
     let right = lit_of(b);
-    push(alloc, &[lit.inverse(), left], clauses)?;
-    push(alloc, &[lit.inverse(), right], clauses)?;
-    push(alloc, &[lit, left.inverse(), right.inverse()], clauses)
+    clauses.push(&[lit.inverse(), left])?;
+    clauses.push(&[lit.inverse(), right])?;
+    clauses.push(&[lit, left.inverse(), right.inverse()])
 }
 
 /// Puts the clause of the goal behind the others: an empty one where the goal is the constant 0, and none
 /// where it is the constant 1.
-fn push_goal(alloc: Global, goal: AigLit, clauses: &mut Seq<Clause>) -> Result<(), AllocError>
+fn push_goal(goal: AigLit, clauses: &mut ClauseList) -> Result<(), AllocError>
     ensures { OnOk result (clauses.new ≡ clauses.old ++ goal_clauses goal) }
 {
     match goal.number() {
-        0 => push(alloc, &[], clauses),
+        0 => clauses.push(&[]),
         1 => Ok(()),
-        _ => push(alloc, &[lit_of(goal)], clauses),
+        _ => clauses.push(&[lit_of(goal)]),
     }
-}
-
-/// Puts a clause of these literals behind the others.
-fn push(alloc: Global, lits: &[Lit], clauses: &mut Seq<Clause>) -> Result<(), AllocError>
-    ensures { OnOk result (clauses.new ≡ clauses.old ++ clause_of lits.now ∷ []) }
-{
-    let lits = Vec::from_slice(alloc, lits)?;
-    clauses.push(Clause {
-        lits: Seq::from_vec(lits),
-    })
 }
 
 /// The literal of a formula that says what a literal of the list says.

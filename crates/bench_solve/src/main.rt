@@ -35,11 +35,13 @@ fn is_true(bits: &[bool], lit: Lit) -> bool {
 }
 
 fn is_model(formula: &Formula, bits: &[bool]) -> bool {
-    formula.clauses.as_slice().iter().all(|clause| clause
-        .lits
-        .as_slice()
-        .iter()
-        .any(|lit| is_true(bits, *lit)))
+    for place in 0..formula.clauses.len() {
+        let clause = formula.clauses.at(place);
+        if !clause.iter().any(|lit| is_true(bits, *lit)) {
+            return false;
+        }
+    }
+    true
 }
 
 fn checked(alloc: Global, formula: &Formula, log: &Log) -> Result<Said, AllocError> {

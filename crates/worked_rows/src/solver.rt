@@ -40,12 +40,16 @@ fn tried(formula: &Formula, bits: &[bool]) -> Answer {
 
 /// Whether a bit for each variable makes each clause true.
 fn is_model(formula: &Formula, bits: &[bool]) -> bool {
-    bits.len() == formula.variables as usize
-        && formula.clauses.as_slice().iter().all(|clause| clause
-            .lits
-            .as_slice()
-            .iter()
-            .any(|lit| is_true(bits, *lit)))
+    if bits.len() != formula.variables as usize {
+        return false;
+    }
+    for place in 0..formula.clauses.len() {
+        let clause = formula.clauses.at(place);
+        if !clause.iter().any(|lit| is_true(bits, *lit)) {
+            return false;
+        }
+    }
+    true
 }
 
 fn is_true(bits: &[bool], lit: Lit) -> bool {

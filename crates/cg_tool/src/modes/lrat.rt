@@ -9,7 +9,7 @@ ghost use Rattle.cg_run.specs.Verdict.{Answers};
 ghost use Rattle.cg_tool.specs.Lrat.{IsChecked, cause_text, check_finish, check_text, lrat_gives, lrat_start, lrat_stops, lrat_takes};
 ghost use Rattle.cg_tool.specs.Lrat.{lrat_task};
 
-use cg_formula::Formula;
+use cg_formula::{ClauseList, Formula};
 use cg_list::Seq;
 use cg_lrat::{Checker, Log, Verdict, Why};
 use cg_run::{Finish, Mode, Names, Output, Reader, Role, Status, Trouble, drive};
@@ -35,7 +35,7 @@ impl Lrat {
         Lrat {
             formula: Formula {
                 variables: 0,
-                clauses: Seq::new(alloc),
+                clauses: ClauseList::new(alloc),
             },
             log: Log {
                 steps: Seq::new(alloc),

@@ -13,7 +13,7 @@ ghost use Rattle.cg_formula.specs.DimacsReading.{counts_of, header_of, clause_at
 
 use crate::clause_list::{ClauseList, push_end};
 use crate::formula::{Formula, Lit};
-use crate::token::{ClauseToken, push_lits, read_clause_token};
+use crate::token::{ClauseToken, push_clause, read_clause_token};
 use cg_limit::{Limit, MOST_VARIABLES};
 use cg_text::blanks::Blanks;
 use cg_text::lines::{Comments, Layout, Lines};
@@ -205,7 +205,7 @@ fn push_clauses(text: &mut Vec<u8>, clauses: &ClauseList) -> Result<(), AllocErr
     ensures { OnOk result (text.new.items ≡ text.old.items ++ text_of (map clause_words clauses.now)) }
 {
     for place in 0..clauses.len() {
-        push_lits(text, clauses.at(place))?;
+        push_clause(text, clauses.at(place))?;
         text.push(b'\n')?;
     }
     Ok(())

@@ -5,7 +5,7 @@ ghost use Rattle.cg_text.specs.Written.{joined};
 ghost use Rattle.cg_formula.specs.Tokens.{clause_token, literal_of};
 ghost use Rattle.cg_formula.specs.DimacsText.{lit_word, clause_words};
 
-use crate::formula::{Clause, Lit};
+use crate::formula::Lit;
 use cg_text::number::{Number, push_number, read_number};
 use std::alloc::AllocError;
 
@@ -60,15 +60,8 @@ fn push_lit(text: &mut Vec<u8>, lit: Lit) -> Result<(), AllocError>
     Ok(())
 }
 
-/// Puts the words of a clause behind the text, up to its zero.
-pub fn push_clause(text: &mut Vec<u8>, clause: &Clause) -> Result<(), AllocError>
-    ensures { OnOk result (text.new.items ≡ text.old.items ++ joined (clause_words clause.now)) }
-{
-    push_lits(text, clause.lits.as_slice())
-}
-
 /// Puts the words of a clause with these literals behind the text, up to its zero.
-pub(crate) fn push_lits(text: &mut Vec<u8>, lits: &[Lit]) -> Result<(), AllocError>
+pub fn push_clause(text: &mut Vec<u8>, lits: &[Lit]) -> Result<(), AllocError>
     ensures { OnOk result (text.new.items ≡ text.old.items ++ joined (clause_words (record { lits = lits.now }))) }
 {
     for lit in lits {

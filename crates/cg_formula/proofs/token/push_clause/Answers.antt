@@ -1,7 +1,7 @@
 use Rattle.std.proofs.Common.{arith}
 use Rattle.cg_formula.specs.DimacsText.{lit_word}
 use Rattle.cg_formula.proofs.Pushed.{words_pushed}
-use Rattle.cg_formula.proofs.token.push_lits.Goals as goal
+use Rattle.cg_formula.proofs.token.push_clause.Goals as goal
 
 pub returns : goal.returns
 returns c =

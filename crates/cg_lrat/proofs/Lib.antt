@@ -11,3 +11,4 @@ pub mod GrownLog
 pub mod UnitHints
 pub mod HintsByTruth
 mod LiveTable
+mod StepLists

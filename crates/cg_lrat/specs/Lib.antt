@@ -1,5 +1,6 @@
 pub mod Bounds
 pub mod Ids
+pub mod Views
 pub mod LratReading
 pub mod LratText
 pub mod Accepted

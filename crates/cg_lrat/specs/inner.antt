@@ -3,3 +3,4 @@ pub mod NonFalse
 pub mod LiveTable
 pub mod Progress
 pub mod Hints
+pub mod StepList

@@ -7,8 +7,9 @@ ghost use Rattle.cg_lrat.specs.AcceptedLog.{IsVerdict};
 ghost use Rattle.cg_lrat.specs.inner.Progress.{state_of};
 ghost use Rattle.cg_formula.specs.Satisfiable.{IsUnsatisfiable};
 
-use crate::log::{Log, Step};
+use crate::log::Log;
 use crate::progress::{Next, Progress};
+use crate::step_list::StepList;
 use crate::verdict::{Verdict, Why};
 use cg_formula::Formula;
 use std::alloc::{AllocError, Global};
@@ -18,10 +19,11 @@ use std::alloc::{AllocError, Global};
 pub struct Checker;
 
 /// The verdict that the steps give.
-fn take_all<'a>(progress: &mut Progress<'a>, steps: &'a [Step]) -> Result<Verdict, AllocError>
+fn take_all<'a>(progress: &mut Progress<'a>, steps: &'a StepList) -> Result<Verdict, AllocError>
     ensures { IfOk result (λ found. found ≡ verdict_from (state_of progress.old) steps.entry.now) }
 {
-    for step in steps {
+    for place in 0..steps.len() {
+        let step = steps.at(place);
         match progress.take(step)? {
             Next::Refused(why) => return Ok(Verdict::Rejected(step.line, why)),
             Next::Accepted => return Ok(Verdict::Accepted),
@@ -36,7 +38,7 @@ fn run<'a>(alloc: Global, formula: &'a Formula, log: &'a Log) -> Result<Verdict,
     ensures { IfOk result (λ found. found ≡ verdict formula.entry.now log.entry.now) }
 {
     let mut progress = Progress::start(alloc, formula)?;
-    take_all(&mut progress, log.steps.as_slice())
+    take_all(&mut progress, &log.steps)
 }
 
 impl Checker {

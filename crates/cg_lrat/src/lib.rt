@@ -11,6 +11,7 @@
 //! Modules, as data flows through them:
 //!
 //! - `log`: [`Log`], [`Step`] and [`Body`], which are read, checked and written;
+//! - `step_list`: [`StepList`], the steps of a log in one list of literals and one of ids;
 //! - `id`: the words of hints;
 //! - `lrat`: the text, read and written;
 //! - `assignment`: the literals that are true within a step;
@@ -30,9 +31,11 @@ mod live;
 mod log;
 mod lrat;
 mod progress;
+mod step_list;
 mod verdict;
 
 pub use checker::Checker;
 pub use log::{Body, Log, Step};
 pub use lrat::{GREATEST_VARIABLE, LratFault, read_lrat, write_lrat};
+pub use step_list::{BodyView, StepList, StepView};
 pub use verdict::{Verdict, Why};

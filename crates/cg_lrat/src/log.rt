@@ -1,5 +1,6 @@
 //! Logs that prove a formula unsatisfiable, step by step, as in LRAT.
 
+use crate::step_list::StepList;
 use cg_formula::Clause;
 use cg_list::Seq;
 
@@ -28,5 +29,5 @@ pub struct Step {
 #[derive(Debug, Drop)]
 pub struct Log {
     /// The steps.
-    pub steps: Seq<Step>,
+    pub steps: StepList,
 }

@@ -9,10 +9,12 @@ ghost use Rattle.cg_lrat.specs.Bounds.{IsLog};
 ghost use Rattle.cg_lrat.specs.LratText.{LratText, id_words, body_words, step_words, lrat_text, counted};
 ghost use Rattle.cg_formula.specs.DimacsText.{clause_words};
 ghost use Rattle.cg_lrat.specs.LratReading.{lits_at, ids_at, addition_of, deletion_of, step_of, lrat};
+ghost use Rattle.cg_lrat.specs.Views.{body_shown, shown};
 
 use crate::id::{IdToken, push_ids, read_id_token};
 use crate::log::{Body, Log, Step};
-use cg_formula::{Clause, ClauseToken, LAYOUT, push_clause, read_clause_token};
+use crate::step_list::{BodyView, StepList, StepView};
+use cg_formula::{Clause, ClauseToken, LAYOUT, Lit, push_clause, read_clause_token};
 use cg_list::Seq;
 use cg_text::lines::{Line, Lines};
 use cg_text::number::push_number;
@@ -139,13 +141,12 @@ fn read_text(alloc: Global, text: &[u8]) -> Result<Log, LratFault>
     ensures { OrNoMemory NoMemory (λ log. log) result (lrat text.now) }
 {
     let mut lines = Lines::new(text, LAYOUT);
-    let mut steps = Vec::new(alloc);
+    let mut steps = StepList::new(alloc);
     'lines: while let Ok(line) = lines.next_line() {
-        steps.push(read_step(alloc, line)?)?;
+        let step = read_step(alloc, line)?;
+        steps.push(&step)?;
     }
-    Ok(Log {
-        steps: Seq::from_vec(steps),
-    })
+    Ok(Log { steps })
 }
 
 /// Reads the LRAT text of a log.
@@ -171,38 +172,38 @@ pub fn write_lrat(alloc: Global, log: &Log) -> Result<Vec<u8>, AllocError>
     ensures again { IfOk result (λ text. LratText text.items (counted log.now)) }
 {
     let mut text = Vec::new(alloc);
-    for step in log.steps.as_slice() {
-        push_step(&mut text, step)?;
+    for place in 0..log.steps.len() {
+        push_step(&mut text, log.steps.at(place))?;
     }
     Ok(text)
 }
 
 /// Puts the line of a step behind the text.
-fn push_step(text: &mut Vec<u8>, step: &Step) -> Result<(), AllocError>
-    ensures { OnOk result (text.new.items ≡ text.old.items ++ line_text (step_words step.now)) }
+fn push_step(text: &mut Vec<u8>, step: StepView<'_>) -> Result<(), AllocError>
+    ensures { OnOk result (text.new.items ≡ text.old.items ++ line_text (step_words (shown step.entry))) }
 {
     push_number(text, step.id)?;
     text.push(b' ')?;
-    push_body(text, &step.body)?;
+    push_body(text, step.body)?;
     text.push(b'\n')?;
     Ok(())
 }
 
 /// Puts what a step does behind the text.
-fn push_body(text: &mut Vec<u8>, body: &Body) -> Result<(), AllocError>
-    ensures { OnOk result (text.new.items ≡ text.old.items ++ joined (body_words body.now)) }
+fn push_body(text: &mut Vec<u8>, body: BodyView<'_>) -> Result<(), AllocError>
+    ensures { OnOk result (text.new.items ≡ text.old.items ++ joined (body_words (body_shown body.entry))) }
 {
     match body {
-        Body::Add(clause, hints) => push_addition(text, clause, hints.as_slice()),
-        Body::Delete(ids) => push_deletion(text, ids.as_slice()),
+        BodyView::Add(lits, hints) => push_addition(text, lits, hints),
+        BodyView::Delete(ids) => push_deletion(text, ids),
     }
 }
 
 /// Puts a clause and its hints behind the text.
-fn push_addition(text: &mut Vec<u8>, clause: &Clause, hints: &[u64]) -> Result<(), AllocError>
-    ensures { OnOk result (text.new.items ≡ text.old.items ++ joined (clause_words clause.now ++ id_words hints.now)) }
+fn push_addition(text: &mut Vec<u8>, lits: &[Lit], hints: &[u64]) -> Result<(), AllocError>
+    ensures { OnOk result (text.new.items ≡ text.old.items ++ joined (clause_words (record { lits = lits.now }) ++ id_words hints.now)) }
 {
-    push_clause(text, clause)?;
+    push_clause(text, lits)?;
     text.push(b' ')?;
     push_ids(text, hints)?;
     Ok(())

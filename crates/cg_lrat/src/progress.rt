@@ -6,11 +6,12 @@ ghost use Rattle.std.specs.Map.{update};
 ghost use Rattle.cg_lrat.specs.Accepted.{clause_fault, addition_fault, deletion_fault, without};
 ghost use Rattle.cg_formula.specs.Lits.{inverse, is_in};
 ghost use Rattle.cg_lrat.specs.inner.LiveTable.{live_in};
+ghost use Rattle.cg_lrat.specs.Views.{body_shown, shown};
 
 use crate::assignment::Assignment;
 use crate::hint::hints_fault;
 use crate::live::LiveClauses;
-use crate::log::{Body, Step};
+use crate::step_list::{BodyView, StepView};
 use crate::verdict::Why;
 use cg_formula::{Formula, Lit};
 use std::alloc::{AllocError, Global};
@@ -55,13 +56,13 @@ impl<'a> Progress<'a> {
     }
 
     /// Takes a step.
-    pub fn take(&mut self, step: &'a Step) -> Result<Next, AllocError>
-        ensures next { IfOk result (λ next. next ≡ next_of (state_of self.old) step.entry.now) }
-        ensures later { result ≡ Ok Next.Later → state_of self.new ≡ state_after (state_of self.old) step.entry.now.body step.entry.now.id }
+    pub fn take(&mut self, step: StepView<'a>) -> Result<Next, AllocError>
+        ensures next { IfOk result (λ next. next ≡ next_of (state_of self.old) (shown step.entry)) }
+        ensures later { result ≡ Ok Next.Later → state_of self.new ≡ state_after (state_of self.old) (body_shown step.entry.body) step.entry.id }
     {
-        match &step.body {
-            Body::Add(clause, hints) => self.add(step.id, clause.lits.as_slice(), hints.as_slice()),
-            Body::Delete(ids) => match delete(&mut self.live, ids.as_slice()) {
+        match step.body {
+            BodyView::Add(lits, hints) => self.add(step.id, lits, hints),
+            BodyView::Delete(ids) => match delete(&mut self.live, ids) {
                 Some(why) => Ok(Next::Refused(why)),
                 None => Ok(Next::Later),
             },

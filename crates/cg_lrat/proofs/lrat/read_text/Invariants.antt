@@ -6,7 +6,7 @@ use Rattle.cg_lrat.proofs.ReadingOn.{steps_before}
 use Rattle.cg_lrat.proofs.lrat.read_text.Given as goal
 
 abbrev pub invariant-lines : goal.invariant-lines
-invariant-lines l = steps_before l.steps.items (steps_of l.lines.left) ≡ steps_of (text_lines layout l.fn.text)
+invariant-lines l = steps_before l.steps (steps_of l.lines.left) ≡ steps_of (text_lines layout l.fn.text)
 
 abbrev pub decreases-lines : goal.decreases-lines
 decreases-lines l = length l.lines.left

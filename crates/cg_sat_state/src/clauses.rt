@@ -1,6 +1,6 @@
 //! The clauses that a search works with.
 
-ghost use Rattle.std.specs.Prelude.{◌≡◌, ◌+◌, ◌<◌, ◌^◌, Some, None, true, [], ◌∷◌, ◌++◌, length, MatchOption, IfOk, OnOk, OnErr};
+ghost use Rattle.std.specs.Prelude.{◌≡◌, ◌+◌, ◌<◌, ◌^◌, Some, None, true, [], ◌∷◌, ◌++◌, length, take, MatchOption, IfOk, OnOk, OnErr};
 ghost use Rattle.cg_sat_state.specs.Store.{clause_at, IsWithout};
 
 use cg_formula::Lit;
@@ -91,6 +91,13 @@ impl Clauses {
         self.lits.extend_from_slice(lits)?;
         self.spans.push(span)?;
         Ok(())
+    }
+
+    /// Keeps so many places, and takes the clauses behind them away with theirs.
+    pub(crate) fn truncate(&mut self, count: usize)
+        ensures { self.new ≡ take count self.old }
+    {
+        self.spans.truncate(count);
     }
 
     /// Takes the clause at a place away.

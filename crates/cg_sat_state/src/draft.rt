@@ -10,9 +10,8 @@ ghost use Rattle.cg_lrat.specs.AcceptedLog.{IsAccepted};
 ghost use Rattle.cg_sat_state.specs.Store.{live_of, given, IsWithout, Draft};
 
 use crate::clauses::Clauses;
-use cg_formula::{Clause, Formula, Lit};
-use cg_list::Seq;
-use cg_lrat::{Body, Log, Step};
+use cg_formula::{Formula, Lit};
+use cg_lrat::{Log, StepList};
 use std::alloc::{AllocError, Global};
 use std::marker::Model;
 
@@ -20,10 +19,9 @@ use std::marker::Model;
 /// of the formula and those that were added, without those that were deleted.
 #[derive(Drop)]
 pub struct LogDraft<'a> {
-    alloc: Global,
     formula: &'a Formula,
     clauses: Clauses,
-    steps: Vec<Step>,
+    steps: StepList,
 }
 
 impl<'a> Model for LogDraft<'a> {
@@ -34,7 +32,7 @@ impl<'a> Model for LogDraft<'a> {
 
     ghost view = { λ s. record { formula = s.formula.now; clauses = s.clauses } };
 
-    ghost invariant = { λ s. IsDraft s.formula.now s.steps.items s.clauses };
+    ghost invariant = { λ s. IsDraft s.formula.now s.steps s.clauses };
 }
 
 impl<'a> LogDraft<'a> {
@@ -45,10 +43,9 @@ impl<'a> LogDraft<'a> {
     {
         put_clauses(&mut buffer, formula)?;
         Ok(LogDraft {
-            alloc,
             formula,
             clauses: buffer,
-            steps: Vec::new(alloc),
+            steps: StepList::new(alloc),
         })
     }
 
@@ -68,16 +65,17 @@ impl<'a> LogDraft<'a> {
         ensures added { OnOk result (self.new.clauses ≡ self.old.clauses ++ Some lits.items ∷ []) }
         ensures same { OnErr result (self.new.clauses ≡ self.old.clauses) }
     {
-        let id = self.clauses.len() as u64 + 1;
+        let count = self.clauses.len();
+        let id = count as u64 + 1;
         let line = self.steps.len() as u64 + 1;
-        self.steps.reserve(1)?;
         self.clauses.push(lits.as_slice())?;
-        let clause = Clause {
-            lits: Seq::from_vec(lits),
-        };
-        let body = Body::Add(clause, Seq::from_vec(hints));
-        self.steps.push_reserved(Step { line, id, body });
-        Ok(())
+        match self.steps.add(line, id, lits.as_slice(), hints.as_slice()) {
+            Ok(()) => Ok(()),
+            Err(error) => {
+                self.clauses.truncate(count);
+                Err(error)
+            }
+        }
     }
 
     /// Deletes the clause at a place, if there is one. Where memory is wanting nothing changes.
@@ -91,9 +89,7 @@ impl<'a> LogDraft<'a> {
         };
         let id = self.clauses.len() as u64;
         let line = self.steps.len() as u64 + 1;
-        let ids = Vec::from_slice(self.alloc, &[self.clauses.id(place)])?;
-        let body = Body::Delete(Seq::from_vec(ids));
-        self.steps.push(Step { line, id, body })?;
+        self.steps.delete(line, id, &[self.clauses.id(place)])?;
         self.clauses.remove(place);
         Ok(())
     }
@@ -107,21 +103,13 @@ impl<'a> LogDraft<'a> {
     {
         let id = self.clauses.len() as u64 + 1;
         let LogDraft {
-            alloc,
             formula: _,
             clauses,
             mut steps,
         } = self;
         let line = steps.len() as u64 + 1;
-        let clause = Clause {
-            lits: Seq::new(alloc),
-        };
-        let body = Body::Add(clause, Seq::from_vec(hints));
-        steps.push(Step { line, id, body })?;
-        let log = Log {
-            steps: Seq::from_vec(steps),
-        };
-        Ok((log, clauses))
+        steps.add(line, id, &[], hints.as_slice())?;
+        Ok((Log { steps }, clauses))
     }
 
     /// The buffer with its clauses, where no log is wanted.

@@ -11,7 +11,7 @@ ghost use Rattle.cg_tool.specs.Lrat.{lrat_task};
 
 use cg_formula::{ClauseList, Formula};
 use cg_list::Seq;
-use cg_lrat::{Checker, Log, Verdict, Why};
+use cg_lrat::{Checker, Log, StepList, Verdict, Why};
 use cg_run::{Finish, Mode, Names, Output, Reader, Role, Status, Trouble, drive};
 use cg_shelf::Shelf;
 use cg_source::formula::take_formula;
@@ -38,7 +38,7 @@ impl Lrat {
                 clauses: ClauseList::new(alloc),
             },
             log: Log {
-                steps: Seq::new(alloc),
+                steps: StepList::new(alloc),
             },
         }
     }

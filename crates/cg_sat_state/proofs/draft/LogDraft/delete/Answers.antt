@@ -1,4 +1,4 @@
-use Rattle.std.proofs.Common.{◌+◌, [], ◌∷◌, ◌∙◌, ap, arith}
+use Rattle.std.proofs.Common.{◌+◌, [], ◌∷◌, ap, arith}
 use Rattle.cg_lrat.specs.declared.log.Body.TheVariants.{Delete}
 use Rattle.cg_lrat.specs.declared.log.Step.{Step}
 use Rattle.cg_sat_state.proofs.Store.{clause_within}
@@ -10,6 +10,6 @@ id-requires c = clause_within c.self.inside.clauses c.args.place _ c.in-Some.ens
 
 pub invariant_of-self-2 : goal.invariant_of-self-2
 invariant_of-self-2 c =
-    let step : Step = record { line = c.len.result + 1; id = c.len-id.result; body = Delete c.from_vec.result } in
-    draft_without c.self.inside.formula.now c.self.inside.clauses c.remove.new.self c.self.inside.steps.items c.push.new.self.items step c.args.place _
-    c.self.invariant (ap Delete (c.from_vec.ensures ∙ c.in_ok-ids.ensures.items ∙ ap (λ n. n ∷ []) c.id.ensures)) c.len-id.ensures.count (omega (arith, c.len.ensures)) (omega (arith, c.len-id.ensures.few, c.len-id.ensures.count)) c.in-Some.ensures c.remove.ensures c.in_ok-push.ensures.items
+    let step : Step = record { line = c.len.result + 1; id = c.len-id.result; body = Delete (c.id.result ∷ []) } in
+    draft_without c.self.inside.formula.now c.self.inside.clauses c.remove.new.self c.self.inside.steps c.delete.new.self step c.args.place _
+    c.self.invariant (ap (λ n. Delete (n ∷ [])) c.id.ensures) c.len-id.ensures.count (ap (λ n. n + 1) c.len.ensures.count) (omega (arith, c.len-id.ensures.few, c.len-id.ensures.count)) c.in-Some.ensures c.remove.ensures c.in_ok-delete.ensures.added

@@ -3,7 +3,6 @@ use Rattle.std.proofs.Common.{◌≡◌, ℕ, zero, suc, ◌<◌, ◌≤◌, Lis
 use Rattle.std.proofs.Common.{length, arith}
 use Rattle.std.specs.List.{AllByRecursion}
 use Rattle.cg_formula.specs.declared.formula.Lit.{Lit}
-use Rattle.cg_lrat.specs.declared.hint.NonFalse.TheVariants as left
 use Rattle.cg_lrat.specs.Accepted.{unit_then, non_false_of, non_false_lits, false_at, hints_fault}
 use Rattle.cg_sat_state.specs.Store.{Store, live_of}
 use Rattle.cg_sat_state.proofs.Store.{clause_within}

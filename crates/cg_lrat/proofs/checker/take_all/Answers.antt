@@ -6,7 +6,7 @@ use Rattle.cg_lrat.specs.declared.verdict.Verdict.TheVariants as verdicts
 use Rattle.cg_lrat.specs.declared.verdict.Why.{Why}
 use Rattle.cg_lrat.specs.Accepted.{State, adds_empty, fault_of, state_after, step_verdict, verdict_from}
 use Rattle.cg_lrat.specs.Views.{shown}
-use Rattle.cg_lrat.specs.inner.Progress.{next_by, next_of, state_of}
+use Rattle.cg_lrat.specs.inner.Progress.{next_by, state_of}
 use Rattle.cg_lrat.proofs.StepLists.{dropped_at}
 use Rattle.cg_lrat.proofs.checker.take_all.Goals as goal
 

@@ -1,4 +1,4 @@
-use Rattle.std.proofs.Common.{length, ◌≡◌, ◌++◌, ◌∷◌, [], refl, sym, subst, ◌∙◌, append_assoc, arith}
+use Rattle.std.proofs.Common.{◌≡◌, ◌++◌, ◌∷◌, [], refl, sym, subst, ◌∙◌, append_assoc, arith}
 use Rattle.cg_text.specs.Written.{joined}
 use Rattle.cg_lrat.specs.LratText.{LratText, lrat_text, step_words, counted}
 use Rattle.cg_lrat.specs.Views.{shown}

@@ -1,9 +1,9 @@
-use Rattle.std.proofs.Common.{◌≡◌, ◌<◌, Some, length, ap, sym, ◌∙◌, subst, arith}
+use Rattle.std.proofs.Common.{◌≡◌, ◌<◌, Some, length, ap, sym, ◌∙◌, arith}
 use Rattle.std.specs.List.{slice_get}
 use Rattle.std.proofs.lemmas.Option.{slice_get-get_or}
 use Rattle.cg_lrat.specs.declared.log.Body.{Body}
 use Rattle.cg_lrat.specs.declared.log.Step.{Step}
-use Rattle.cg_lrat.specs.inner.StepList.{IsWithin, body_by, part}
+use Rattle.cg_lrat.specs.inner.StepList.{body_by, part}
 use Rattle.cg_lrat.specs.Views.{body_shown}
 use Rattle.cg_lrat.proofs.StepLists.{long_as_places, place_within, step_at}
 use Rattle.cg_lrat.proofs.step_list.StepList.at.Goals as goal

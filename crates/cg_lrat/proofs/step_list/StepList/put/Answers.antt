@@ -1,4 +1,4 @@
-use Rattle.std.proofs.Common.{◌≡◌, ◌+◌, ◌++◌, ◌∷◌, [], ap, ◌∙◌, length, length-append, arith}
+use Rattle.std.proofs.Common.{◌≡◌, ◌+◌, ◌++◌, ap, ◌∙◌, length, length-append, arith}
 use Rattle.cg_lrat.specs.declared.step_list.Span.{Span}
 use Rattle.cg_lrat.specs.declared.step_list.Place.{Place}
 use Rattle.cg_lrat.specs.inner.StepList.{IsWithin}

@@ -1,3 +1,5 @@
+pub mod EscapedRuns
 pub mod LineCounts
 pub mod PlainNames
 pub mod TokensLeft
+pub mod TokensStay

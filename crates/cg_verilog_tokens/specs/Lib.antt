@@ -1,4 +1,3 @@
-pub mod LinesLeft
 pub mod Passing
 pub mod PlainNames
 pub mod Runs

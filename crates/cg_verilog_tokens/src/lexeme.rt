@@ -1,11 +1,13 @@
 //! What begins at a byte of a text.
 
-ghost use Rattle.std.specs.Prelude.{◌≡◌, ◌+◌, ◌≤◌, ◌==◌, false, length, slice_index, IfSome};
+ghost use Rattle.std.specs.Prelude.{◌≡◌, ◌+◌, ◌≤◌, ◌==◌, false, length, not, slice_index, IfSome};
+ghost use Rattle.cg_text.specs.Blanks.{is_white_space};
 ghost use Rattle.cg_verilog_text.specs.Lexeme.{based_length, closed, closed_by, closing_length, is_digit, is_in_number, is_in_word, is_letter};
 ghost use Rattle.cg_verilog_text.specs.Lexeme.{is_mark_byte, lexeme, run_length, skips_line};
 ghost use Rattle.cg_verilog_tokens.specs.PlainNames.{IsPlainName};
 ghost use Rattle.cg_verilog_tokens.specs.Runs.{in_run, IsWithin};
 
+use cg_scan::first::first_blank_or;
 use cg_text::blanks::is_white_space;
 use cg_verilog_text::kind::Kind;
 use cg_verilog_text::lexeme::Lexeme;
@@ -143,6 +145,18 @@ fn begins_with(after: &[u8], byte: u8) -> bool
     }
 }
 
+/// The number of bytes of an escaped identifier behind its `\`. Most end at the first byte that no name has, which is found at once.
+fn escaped_bytes(after: &[u8]) -> usize
+    ensures length { result ≡ run_length (λ b. not (is_white_space b)) after.now }
+    ensures within { result ≤ length after.now }
+{
+    let named = first_blank_or(after, b'#');
+    if named == after.len() || is_white_space(after[named]) {
+        return named;
+    }
+    run_bytes(Run::Escaped, after)
+}
+
 /// What begins at a byte, with what stands after it; `fresh`: only blanks stand before it on its line.
 #[tactic(auto, using(crate::proofs::PlainNames::plain_name))]
 pub fn lexeme(fresh: bool, byte: u8, after: &[u8]) -> Lexeme
@@ -161,7 +175,7 @@ pub fn lexeme(fresh: bool, byte: u8, after: &[u8]) -> Lexeme
     } else if is_letter(byte) {
         Lexeme::Token(Kind::Plain, run_bytes(Run::Word, after))
     } else if byte == b'\\' {
-        Lexeme::Token(Kind::Escaped, run_bytes(Run::Escaped, after))
+        Lexeme::Token(Kind::Escaped, escaped_bytes(after))
     } else if is_digit(byte) {
         Lexeme::Token(Kind::Number, based_bytes(after))
     } else if byte == b'<' && begins_with(after, b'=') {

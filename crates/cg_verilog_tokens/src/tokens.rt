@@ -3,11 +3,13 @@
 ghost use Rattle.std.specs.Prelude.{◌≡◌, ◌+◌, ◌<◌, ◌≤◌, ◌∷◌, ◌^◌, ℕ, List, [], length, true, drop, take, MatchOption};
 ghost use Rattle.std.specs.List.{fold};
 ghost use Rattle.cg_text.specs.Lines.{end_line};
+ghost use Rattle.cg_text.specs.Words.{lines};
 ghost use Rattle.cg_verilog_text.specs.Tokens.{next_line, stays_fresh, token_text, tokens};
 ghost use Rattle.cg_verilog_tokens.specs.Passing.{passed_fresh, passed_line};
 
 use crate::lexeme::lexeme;
 use crate::token::Token;
+use cg_scan::first::first_at;
 use cg_text::blanks::is_white_space;
 use cg_verilog_text::kind::Kind;
 use cg_verilog_text::lexeme::Lexeme;
@@ -81,10 +83,8 @@ impl<'a> Tokens<'a> {
                 }
                 Lexeme::Token(kind, more) => {
                     let text = text_of(kind, self.rest, more);
-                    let place = passed(first.byte, first.rest, more, self.fresh, line);
                     self.rest = behind(first.rest, more);
-                    self.fresh = place.fresh;
-                    self.line = place.line;
+                    self.fresh = false;
                     return Some(Token::new(line, kind, text));
                 }
                 Lexeme::Open => {
@@ -98,22 +98,30 @@ impl<'a> Tokens<'a> {
 }
 
 /// The number of the line behind the last.
-#[tactic(auto, using(crate::proofs::LineCounts::counts))]
 pub fn line_behind(text: &[u8]) -> u64
     requires { length text.now < 2 ^ 63 }
     ensures { result ≡ end_line text.now }
 {
-    let mut lines: u64 = 0;
-    let mut begun = false;
-    'bytes: for byte in text {
-        if *byte == b'\n' {
-            lines += 1;
-            begun = false;
-        } else {
-            begun = true;
-        }
+    let mut rest = text;
+    let mut line: u64 = 1;
+    'lines: while !rest.is_empty() {
+        rest = behind_line(rest);
+        line += 1;
     }
-    if begun { lines + 2 } else { lines + 1 }
+    line
+}
+
+/// The bytes behind the first line of some.
+fn behind_line(text: &[u8]) -> &[u8]
+    requires { 0 < length text.now }
+    ensures lines { length (lines text.entry.now) ≡ 1 + length (lines result.now) }
+    ensures shorter { length result.now < length text.entry.now }
+{
+    let len = first_at(text, b'\n');
+    if len == text.len() {
+        return &text[len..];
+    }
+    &text[len + 1..]
 }
 
 /// The first byte of some, and those behind it.

@@ -1,6 +1,7 @@
-use Rattle.std.proofs.Common.{◌∙◌, sym, ap, arith, length}
+use Rattle.std.proofs.Common.{◌∙◌, sym, ap, arith, length, refl}
 use Rattle.std.proofs.lemmas.List.{length-drop}
 use Rattle.cg_verilog_tokens.proofs.TokensLeft.{blank_step, token_step}
+use Rattle.cg_verilog_tokens.proofs.TokensStay.{token_fresh, token_line}
 use Rattle.cg_verilog_tokens.proofs.tokens.Tokens.next.Goals as goal
 
 pub gaps-preserved : goal.gaps-preserved
@@ -22,4 +23,6 @@ returns-in-Token-clause-token c =
     let inside = c.gaps.self-inside in
     let step = token_step inside.end inside.fresh inside.line c.in-Some.first.byte c.in-Token.more c.in-Token.kind inside.rest.now c.in-Some.first.rest.now split c.in-Token.ensures.lexeme in
     let text = c.text_of-text.ensures c.in-Some.first.byte c.in-Some.first.rest.now split in
-    rw (c.new.ensures, text, c.behind-self-inside-in-Token.ensures, c.passed-place-in-Token.ensures.fresh, c.passed-place-in-Token.ensures.line) (sym c.gaps.invariant.left ∙ step)
+    let line = token_line inside.fresh inside.line c.in-Some.first.byte c.in-Some.first.rest.now c.in-Token.kind c.in-Token.more c.in-Token.ensures.lexeme in
+    let fresh = token_fresh inside.fresh c.in-Some.first.byte c.in-Some.first.rest.now c.in-Token.kind c.in-Token.more c.in-Token.ensures.lexeme in
+    rw (c.new.ensures, text, c.behind-self-inside-in-Token.ensures) (sym c.gaps.invariant.left ∙ (step ∙ rw (fresh, line) refl))

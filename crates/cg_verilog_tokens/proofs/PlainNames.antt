@@ -1,12 +1,9 @@
 -- A letter and what goes on with a word behind it are a name.
-use Rattle.std.proofs.Common.{◌≡◌, ℕ, zero, suc, ◌+◌, ◌-◌, ◌==◌, Bool, true, false, not, ◌&&◌, ◌||◌, List, [], ◌∷◌, ◌++◌, length, take, cond, refl, ap, ◌∙◌, sym, subst, arith, length-append, append_assoc, nat_le, nat_lt, nat_eq, Some, IsTrue}
-use Rattle.std.specs.Prelude.{slice_get, slice_index}
+use Rattle.std.proofs.Common.{◌≡◌, ℕ, suc, ◌+◌, ◌-◌, ◌==◌, Bool, true, false, not, ◌&&◌, List, [], ◌∷◌, length, take, cond, refl, sym, subst, arith, IsTrue}
+use Rattle.std.specs.Prelude.{slice_get}
 use Rattle.std.specs.List.{list_all}
-use Rattle.std.specs.Char.{is_ascii_digit}
-use Rattle.std.specs.Str.{all_ascii_digits}
 use Rattle.std.proofs.lemmas.Bool.Decides.{nat_tests}
 use Rattle.cg_cell.specs.Name.{ends_name, is_name, is_name_byte}
-use Rattle.cg_text.specs.Numbers.{is_number}
 use Rattle.cg_verilog_text.specs.Lexeme.{is_in_word, is_letter, run_length}
 
 -- whether a byte may stand in a name, at its end too

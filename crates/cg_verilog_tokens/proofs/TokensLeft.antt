@@ -1,5 +1,5 @@
 -- Tokens from a place on.
-use Rattle.std.proofs.Common.{◌≡◌, ℕ, zero, suc, ◌+◌, Bool, true, false, List, [], ◌∷◌, drop, take, refl, ap, arith}
+use Rattle.std.proofs.Common.{◌≡◌, ℕ, zero, suc, Bool, List, [], ◌∷◌, drop, take, refl, ap}
 use Rattle.cg_verilog_text.specs.Lexeme.{lexeme}
 use Rattle.cg_verilog_text.specs.Tokens.{Token, next_line, stays_fresh, token_text, tokens_from}
 use Rattle.cg_verilog_text.specs.declared.kind.Kind.{Kind}

@@ -1,9 +1,9 @@
 -- A token holds no blank, so what stands behind it stands on its line and behind more than blanks.
-use Rattle.std.proofs.Common.{◌≡◌, ℕ, zero, suc, ◌+◌, ◌==◌, Bool, true, false, not, ◌&&◌, ◌||◌, List, [], ◌∷◌, take, cond, refl, ap, ◌∙◌, sym, subst, arith, Option, None, Some, nat_le}
+use Rattle.std.proofs.Common.{◌≡◌, ℕ, suc, ◌+◌, ◌==◌, Bool, true, false, not, ◌&&◌, List, [], ◌∷◌, take, cond, refl, ap, ◌∙◌, sym, subst, arith, Option, None, Some}
 use Rattle.std.specs.Prelude.{slice_index}
 use Rattle.std.specs.List.{list_all}
 use Rattle.std.proofs.lemmas.Bool.Decides.{nat_tests}
-use Rattle.cg_text.specs.Blanks.{is_line_feed, is_white_space}
+use Rattle.cg_text.specs.Blanks.{is_white_space}
 use Rattle.cg_verilog_text.specs.Lexeme.{based_length, closed, closed_by, closing_length, is_digit, is_in_number, is_in_word, is_letter, is_mark_byte, lexeme, run_length, skips_line}
 use Rattle.cg_verilog_text.specs.Tokens.{next_line, stays_fresh}
 use Rattle.cg_verilog_text.specs.declared.kind.Kind.{Kind}

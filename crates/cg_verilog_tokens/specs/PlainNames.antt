@@ -1,5 +1,5 @@
--- A plain identifier is a name.
-use Rattle.std.specs.Prelude.{ℕ, IsTrue, List, ◌∷◌, take}
+-- A plain identifier is a name, and an escaped one may be known to be one.
+use Rattle.std.specs.Prelude.{ℕ, Bool, true, false, IsTrue, List, ◌∷◌, take}
 use Rattle.cg_cell.specs.Name.{is_name}
 use Rattle.cg_verilog_text.specs.declared.kind.Kind.{Kind}
 use Rattle.cg_verilog_text.specs.declared.kind.Kind.TheVariants.{Plain}
@@ -15,3 +15,8 @@ IsNamedIfPlain kind text = Unit {0}
 abbrev pub IsPlainName : ℕ → List ℕ → Lexeme → Type 0
 IsPlainName byte after (Token Plain more) = IsTrue (is_name (byte ∷ take more after))
 IsPlainName byte after lexeme = Unit {0}
+
+-- bytes of which it is known or not that they are a name
+abbrev pub IsNamedIf : Bool → List ℕ → Type 0
+IsNamedIf true text = IsTrue (is_name text)
+IsNamedIf false text = Unit {0}

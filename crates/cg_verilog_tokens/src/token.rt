@@ -3,7 +3,8 @@
 ghost use Rattle.std.specs.Prelude.{◌≡◌, false, true, MatchOption};
 ghost use Rattle.std.specs.List.{list_any};
 ghost use Rattle.std.specs.Str.{bytes_eq};
-ghost use Rattle.cg_verilog_tokens.specs.PlainNames.{IsNamedIfPlain};
+ghost use Rattle.cg_cell.specs.Name.{is_name};
+ghost use Rattle.cg_verilog_tokens.specs.PlainNames.{IsNamedIf, IsNamedIfPlain};
 ghost use Rattle.cg_verilog_text.specs.Reading.{is_arrow, is_bit, is_identifier, is_label, is_mark, is_numeral, is_plain, is_word, keywords, ones};
 
 use crate::identifier::Identifier;
@@ -23,17 +24,20 @@ pub struct Token<'a> {
 
     /// Its bytes, which are those behind the `\` of an escaped one.
     text: &'a [u8],
+
+    /// Whether these are known to be a name, so that they need not be looked through again.
+    named: bool,
 }
 
 impl<'a> Model for Token<'a> {
     ghost use Rattle.cg_verilog_text.specs.Tokens.{Token as TokenSeen};
-    ghost use Rattle.cg_verilog_tokens.specs.PlainNames.{IsNamedIfPlain};
+    ghost use Rattle.cg_verilog_tokens.specs.PlainNames.{IsNamedIf, IsNamedIfPlain};
 
     ghost Value = { TokenSeen };
 
     ghost view = { λ t. record { line = t.line; kind = t.kind; text = t.text.now } };
 
-    ghost invariant = { λ t. IsNamedIfPlain t.kind t.text.now };
+    ghost invariant = { λ t. IsNamedIfPlain t.kind t.text.now × IsNamedIf t.named t.text.now };
 }
 
 impl<'a> Token<'a> {
@@ -42,7 +46,21 @@ impl<'a> Token<'a> {
         requires { IsNamedIfPlain kind text.now }
         ensures { result ≡ record { line = line; kind = kind; text = text.entry.now } }
     {
-        Token { line, kind, text }
+        Token::known(line, kind, text, false)
+    }
+
+    /// The same; `named`: the bytes are known to be a name.
+    pub fn known(line: u64, kind: Kind, text: &'a [u8], named: bool) -> Token<'a>
+        requires plain { IsNamedIfPlain kind text.now }
+        requires named { IsNamedIf named text.now }
+        ensures { result ≡ record { line = line; kind = kind; text = text.entry.now } }
+    {
+        Token {
+            line,
+            kind,
+            text,
+            named,
+        }
     }
 
     /// The number of its line, counted from 1.
@@ -65,9 +83,16 @@ impl<'a> Token<'a> {
     {
         match self.kind {
             Kind::Plain if !is_keyword(self.text) => Some(Identifier::new(self.text)),
-            Kind::Escaped if Name::is_name(self.text) => Some(Identifier::new(self.text)),
+            Kind::Escaped if self.is_name() => Some(Identifier::new(self.text)),
             _ => None,
         }
+    }
+
+    /// Whether its bytes are a name.
+    fn is_name(&self) -> bool
+        ensures { result ≡ is_name self.now.text }
+    {
+        self.named || Name::is_name(self.text)
     }
 
     /// Whether it is this mark.

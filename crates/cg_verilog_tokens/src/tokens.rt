@@ -6,10 +6,11 @@ ghost use Rattle.cg_text.specs.Lines.{end_line};
 ghost use Rattle.cg_text.specs.Words.{lines};
 ghost use Rattle.cg_verilog_text.specs.Tokens.{next_line, stays_fresh, token_text, tokens};
 ghost use Rattle.cg_verilog_tokens.specs.Passing.{passed_fresh, passed_line};
+ghost use Rattle.cg_verilog_tokens.specs.PlainNames.{IsNamedIf};
 
 use crate::lexeme::lexeme;
 use crate::token::Token;
-use cg_scan::first::first_at;
+use cg_scan::first::{first_at, first_blank_or};
 use cg_text::blanks::is_white_space;
 use cg_verilog_text::kind::Kind;
 use cg_verilog_text::lexeme::Lexeme;
@@ -83,9 +84,10 @@ impl<'a> Tokens<'a> {
                 }
                 Lexeme::Token(kind, more) => {
                     let text = text_of(kind, self.rest, more);
+                    let named = is_escaped_name(kind, first.rest, more);
                     self.rest = behind(first.rest, more);
                     self.fresh = false;
-                    return Some(Token::new(line, kind, text));
+                    return Some(Token::known(line, kind, text, named));
                 }
                 Lexeme::Open => {
                     self.rest = &[];
@@ -190,6 +192,34 @@ fn behind(bytes: &[u8], count: usize) -> &[u8]
     ensures { result.now ≡ drop count bytes.entry.now }
 {
     &bytes[count..]
+}
+
+/// Whether a token of a kind is an escaped identifier and a name; `more` of its bytes stand behind its first.
+fn is_escaped_name(kind: Kind, after: &[u8], more: usize) -> bool
+    requires { more ≤ length after.now }
+    ensures { (byte : ℕ) → IsNamedIf result (token_text kind more byte after.now) }
+{
+    match kind {
+        Kind::Escaped => begins_with_name(after, more),
+        _ => false,
+    }
+}
+
+/// Whether the first `count` bytes are a name. Bytes behind them are looked at, so that sixteen are at once.
+fn begins_with_name(bytes: &[u8], count: usize) -> bool
+    requires { count ≤ length bytes.now }
+    ensures { IsNamedIf result (take count bytes.now) }
+{
+    if count == 0 {
+        return false;
+    }
+    if bytes[count - 1] == b'\\' {
+        return false;
+    }
+    if first_blank_or(bytes, b'#') < count {
+        return false;
+    }
+    true
 }
 
 /// The text of a token of a kind that begins with the first of the bytes and has `more` bytes behind it.

@@ -25,4 +25,4 @@ returns-in-Token-clause-token c =
     let text = c.text_of-text.ensures c.in-Some.first.byte c.in-Some.first.rest.now split in
     let line = token_line inside.fresh inside.line c.in-Some.first.byte c.in-Some.first.rest.now c.in-Token.kind c.in-Token.more c.in-Token.ensures.lexeme in
     let fresh = token_fresh inside.fresh c.in-Some.first.byte c.in-Some.first.rest.now c.in-Token.kind c.in-Token.more c.in-Token.ensures.lexeme in
-    rw (c.new.ensures, text, c.behind-self-inside-in-Token.ensures) (sym c.gaps.invariant.left ∙ (step ∙ rw (fresh, line) refl))
+    rw (c.known.ensures, text, c.behind-self-inside-in-Token.ensures) (sym c.gaps.invariant.left ∙ (step ∙ rw (fresh, line) refl))

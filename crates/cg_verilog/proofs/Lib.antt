@@ -4,6 +4,7 @@ pub mod CoverFits
 pub mod CoverRows
 pub mod Declared
 pub mod FarApart
+pub mod FewNames
 pub mod HearingLemmas
 pub mod InitsSummed
 pub mod ItemsLeft

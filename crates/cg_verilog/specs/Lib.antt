@@ -3,6 +3,7 @@ pub mod Declaring
 pub mod Ending
 pub mod GivenInits
 pub mod Hearing
+pub mod NamesSeen
 pub mod Reads
 pub mod Summary
 pub mod Tellings

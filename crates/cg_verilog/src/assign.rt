@@ -15,6 +15,7 @@ ghost use Rattle.cg_verilog_text.specs.Telling.{with_parts};
 ghost use Rattle.cg_verilog.specs.Hearing.{Hears, HearsItem, heard};
 
 use crate::cover::{inputs_of, rows_of};
+use crate::inputs::{InputNames, Inputs};
 use crate::refusal::{Refusal, heard};
 use cg_cell::cover::Cover;
 use cg_limit::{Limit, MOST_COVER_INPUTS};
@@ -50,7 +51,7 @@ pub fn assign(
 fn tell_cover(
     alloc: Global,
     builder: &mut Builder,
-    inputs: &NetNames,
+    inputs: &Inputs<'_>,
     output: &Net<'_>,
     cover: Cover,
 ) -> Result<(), AddFault>
@@ -60,8 +61,29 @@ fn tell_cover(
     requires fits { CoverFits (length inputs.now) cover }
     ensures { Hears builder.old builder.new (with_parts (LogicPart (cell_of inputs.now output.now (CoverFunction cover)) ∷ []) builder.old.said) result }
 {
-    let names = lent(alloc, inputs)?;
-    builder.cover(&names, output.bytes(), cover)
+    match inputs.names() {
+        InputNames::Few(names) => tell_names(builder, names, output, cover),
+        InputNames::Many(names) => {
+            let names = lent(alloc, names)?;
+            tell_names(builder, &names, output, cover)
+        }
+    }
+}
+
+/// Tells a builder that a net is a cover of inputs of these names.
+fn tell_names(
+    builder: &mut Builder,
+    names: &[&[u8]],
+    output: &Net<'_>,
+    cover: Cover,
+) -> Result<(), AddFault>
+    requires fine { builder.old.refused ≡ None }
+    requires few { length names.now ≤ MOST_COVER_INPUTS }
+    requires named { AllByRecursion (λ name. IsTrue (is_name name)) (map (λ name. name.now) names.now) }
+    requires fits { CoverFits (length names.now) cover }
+    ensures { Hears builder.old builder.new (with_parts (LogicPart (cell_of (map (λ name. name.now) names.now) output.now (CoverFunction cover)) ∷ []) builder.old.said) result }
+{
+    builder.cover(names, output.bytes(), cover)
 }
 
 /// Whether a form has more nets than a cover may have.

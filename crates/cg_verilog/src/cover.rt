@@ -1,21 +1,76 @@
 //! The logic cell of a form.
 
-ghost use Rattle.std.specs.Prelude.{◌≡◌, ◌<◌, ◌∷◌, ◌++◌, [], Bool, List, None, Some, IfOk, IsTrue, length, map, set, slice_get};
-ghost use Rattle.std.specs.List.{AllByRecursion, flat_map};
+ghost use Rattle.std.specs.Prelude.{◌≡◌, ◌<◌, ◌∷◌, ◌++◌, [], Bool, List, None, Some, IfOk, IsTrue, length, map, nat_le, set, slice_get};
+ghost use Rattle.std.specs.List.{AllByRecursion, flat_map, list_all};
 ghost use Rattle.std.specs.Str.{bytes_eq};
 ghost use Rattle.cg_cell.specs.Name.{is_name};
 ghost use Rattle.cg_net.specs.Names.{NetName, with_names};
 ghost use Rattle.cg_verilog_text.specs.Forms.{Literal as LiteralSeen};
 ghost use Rattle.cg_verilog_text.specs.Meaning.{bit_in, once, row_of};
+ghost use Rattle.cg_verilog.specs.declared.cover.TheConstants.{FEW};
 
+use crate::inputs::{Inputs, put};
 use cg_cell::rows::CoverRows;
 use cg_list::Seq;
 use cg_net::names::NetNames;
 use cg_verilog_items::term::Literal;
 use std::alloc::{AllocError, Global};
 
+/// How many terms a form of a few has at most, and how many literals each.
+const FEW: usize = 4;
+
 /// The nets of terms, each once, where it stands first.
-pub fn inputs_of(alloc: Global, terms: &[Seq<Literal<'_>>]) -> Result<NetNames, AllocError>
+pub fn inputs_of<'b>(alloc: Global, terms: &'b [Seq<Literal<'_>>]) -> Result<Inputs<'b>, AllocError>
+    ensures names { IfOk result (λ names. names ≡ once bytes_eq (flat_map (λ term. map (λ literal. literal.net) term) terms.entry.now)) }
+    ensures named { IfOk result (AllByRecursion (λ name. IsTrue (is_name name))) }
+{
+    if are_few(terms) {
+        let names = few_of(alloc, terms)?;
+        return Ok(Inputs::few(names));
+    }
+    let names = table_of(alloc, terms)?;
+    Ok(Inputs::many(names))
+}
+
+/// Whether terms are few, and each has few literals. Their nets are the same either way.
+fn are_few(terms: &[Seq<Literal<'_>>]) -> bool {
+    terms.len() <= FEW && are_short(terms)
+}
+
+/// Whether each term has few literals.
+fn are_short(terms: &[Seq<Literal<'_>>]) -> bool
+    ensures { result ≡ list_all (λ term. nat_le (length term) FEW) terms.now }
+{
+    terms.iter().all(|term| term.len() <= FEW)
+}
+
+/// The nets of a few terms, each once, where it stands first.
+fn few_of<'b>(alloc: Global, terms: &'b [Seq<Literal<'_>>]) -> Result<Vec<&'b [u8]>, AllocError>
+    ensures names { IfOk result (λ names. map (λ name. name.now) names.items ≡ once bytes_eq (flat_map (λ term. map (λ literal. literal.net) term) terms.entry.now)) }
+    ensures named { IfOk result (λ names. AllByRecursion (λ name. IsTrue (is_name name)) (map (λ name. name.now) names.items)) }
+{
+    let mut names = Vec::new(alloc);
+    'terms: for term in terms {
+        names = with_few(names, term.as_slice())?;
+    }
+    Ok(names)
+}
+
+/// Names, and the nets of literals that are not among them.
+fn with_few<'b>(before: Vec<&'b [u8]>, term: &'b [Literal<'_>]) -> Result<Vec<&'b [u8]>, AllocError>
+    requires { AllByRecursion (λ name. IsTrue (is_name name)) (map (λ name. name.now) before.items) }
+    ensures names { IfOk result (λ names. map (λ name. name.now) names.items ≡ with_names (map (λ name. name.now) before.entry.items) (map (λ literal. literal.net) term.entry.now)) }
+    ensures named { IfOk result (λ names. AllByRecursion (λ name. IsTrue (is_name name)) (map (λ name. name.now) names.items)) }
+{
+    let mut names = before;
+    'literals: for literal in term {
+        put(&mut names, literal.net.bytes())?;
+    }
+    Ok(names)
+}
+
+/// The nets of terms, each once, where it stands first, in a table.
+fn table_of(alloc: Global, terms: &[Seq<Literal<'_>>]) -> Result<NetNames, AllocError>
     ensures names { IfOk result (λ names. names ≡ once bytes_eq (flat_map (λ term. map (λ literal. literal.net) term) terms.now)) }
     ensures named { IfOk result (AllByRecursion (λ name. IsTrue (is_name name))) }
 {
@@ -42,7 +97,7 @@ fn with_nets(alloc: Global, before: NetNames, term: &[Literal<'_>]) -> Result<Ne
 /// The rows of terms: a place for each input, with the bit of the literal that is its.
 pub fn rows_of(
     alloc: Global,
-    inputs: &NetNames,
+    inputs: &Inputs<'_>,
     terms: &[Seq<Literal<'_>>],
 ) -> Result<CoverRows, AllocError>
     ensures { IfOk result (λ rows. rows ≡ map (row_of bytes_eq inputs.now) terms.now) }
@@ -58,7 +113,7 @@ pub fn rows_of(
 /// The row of a term.
 fn row_of(
     alloc: Global,
-    inputs: &NetNames,
+    inputs: &Inputs<'_>,
     term: &[Literal<'_>],
 ) -> Result<Vec<Option<bool>>, AllocError>
     ensures { IfOk result (λ row. row.items ≡ row_of bytes_eq inputs.now term.now) }
@@ -71,7 +126,7 @@ fn row_of(
 }
 
 /// Puts the bit of a literal at the place of its net, unless there is one.
-fn put_literal(row: &mut [Option<bool>], inputs: &NetNames, literal: &Literal<'_>)
+fn put_literal(row: &mut [Option<bool>], inputs: &Inputs<'_>, literal: &Literal<'_>)
     requires { length row.old ≡ length inputs.now }
     ensures { (before : List (LiteralSeen NetName)) → row.old ≡ map (bit_in bytes_eq before) inputs.now
         → row.new ≡ map (bit_in bytes_eq (before ++ literal.now ∷ [])) inputs.now }

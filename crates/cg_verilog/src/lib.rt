@@ -9,7 +9,7 @@
 //! - `fault`, `refusal`: the first fault of a text, and why an item is not told;
 //! - `inits`: the inits that a text gives;
 //! - `counter`, `declare`: inputs and outputs, told to a builder;
-//! - `cover`, `assign`: an assignment, told to a builder;
+//! - `inputs`, `cover`, `assign`: an assignment, told to a builder;
 //! - `placing`: a placed cell, told to a builder;
 //! - `telling`: what the items of a text tell, one after another;
 //! - `reader`: the netlist of a whole text.
@@ -21,6 +21,7 @@ mod cover;
 mod declare;
 mod fault;
 mod inits;
+mod inputs;
 mod placing;
 mod reader;
 mod refusal;

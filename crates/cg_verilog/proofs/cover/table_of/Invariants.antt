@@ -2,7 +2,7 @@ use Rattle.std.proofs.Common.{◌≡◌, [], IsTrue, drop, map}
 use Rattle.std.specs.List.{AllByRecursion, flat_map}
 use Rattle.cg_cell.specs.Name.{is_name}
 use Rattle.cg_net.specs.Names.{with_names}
-use Rattle.cg_verilog.proofs.cover.inputs_of.Given as goal
+use Rattle.cg_verilog.proofs.cover.table_of.Given as goal
 
 abbrev pub invariant-terms : goal.invariant-terms
 invariant-terms l = record {

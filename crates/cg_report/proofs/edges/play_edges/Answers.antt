@@ -1,7 +1,7 @@
 use Rattle.std.proofs.Common.{◌<◌, ◌∷◌, ◌++◌, [], length, ap, arith}
 use Rattle.cg_report.proofs.RowOn.{behind_more, behind_none, has_row, left_after, pair_played, stepped}
 use Rattle.cg_report.proofs.Watching.{edges_all}
-use Rattle.cg_report.proofs.edges.count_edges.Goals as goal
+use Rattle.cg_report.proofs.edges.play_edges.Goals as goal
 
 pub rows-init : goal.rows-init
 rows-init c =

@@ -1,4 +1,4 @@
-use Rattle.std.proofs.Common.{◌≡◌, length, refl, sym, ◌∙◌, ap}
+use Rattle.std.proofs.Common.{◌≡◌, [], append-nil, length, refl, sym, ◌∙◌, ap}
 use Rattle.cg_hold.proofs.Decided.{never_decided, sometimes_decided}
 use Rattle.cg_plan_laws.specs.declared.certificate.Certificate.{Certificate}
 use Rattle.cg_plan.proofs.Deciding.{proved_decided, settled_alone, settled_bits, settled_never, writable_decided}
@@ -27,6 +27,9 @@ returns-in_ok-push-in-Never-clause-decided c = λ m q width good fits is.
     let written = writable_decided d f log c.in_ok-formula.ensures.writable c.in-Never.is in
     settled_never c.claim_laws.ensures.goal c.claim_laws.ensures.never m q width claim good fits is c.args.proof c.args.number c.args.name.now c.args.into.now.items c.push.new.self.items certificate
     c.if-not-proof.false never refl refl proved.0 proved.1 (record { formula = written.0; log = written.1 }) c.in_ok-push-in-Never.ensures.items
+
+pub returns-in_err-push-in-Never-clause-grown : goal.returns-in_err-push-in-Never-clause-grown
+returns-in_err-push-in-Never-clause-grown c = record { more = []; whole = c.in_err-push-in-Never.ensures.items ∙ sym (append-nil c.args.into.now.items) }
 
 pub returns-in_ok-bits-in-Sometimes-clause-decided :
     goal.returns-in_ok-bits-in-Sometimes-clause-decided

@@ -1,4 +1,4 @@
-use Rattle.std.proofs.Common.{◌≡◌, length, refl, sym, ◌∙◌, ap}
+use Rattle.std.proofs.Common.{◌≡◌, [], append-nil, length, refl, sym, ◌∙◌, ap}
 use Rattle.cg_hint_laws.specs.Trying.{question_of}
 use Rattle.cg_hint_laws.specs.declared.outcome.HintClaim.TheVariants.{Hold}
 use Rattle.cg_hints.proofs.Decided.{NeverSaid, do_violate, formula_said, is_violated, never_said, never_violated, sometimes_said}
@@ -26,6 +26,9 @@ returns-in_ok-push-in-Never-clause-decided c = λ m h width good asked is.
         };
       },
     )
+
+pub returns-in_err-push-in-Never-clause-grown : goal.returns-in_err-push-in-Never-clause-grown
+returns-in_err-push-in-Never-clause-grown c = record { more = []; whole = c.in_err-push-in-Never.ensures.items ∙ sym (append-nil c.args.into.now.items) }
 
 pub returns-in_ok-bits-in-Sometimes-clause-decided :
     goal.returns-in_ok-bits-in-Sometimes-clause-decided

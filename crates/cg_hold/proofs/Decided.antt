@@ -1,8 +1,9 @@
 -- What a decision says of a claim.
-use Rattle.std.proofs.Common.{◌≡◌, ℕ, Bool, true, false, List, Result, Ok, Err, IfOk, sym, ◌∙◌, ap, subst, inl}
+use Rattle.std.proofs.Common.{◌≡◌, ℕ, Bool, true, false, List, None, Option, Some, refl, sym, ◌∙◌, ap, subst, inl}
 use Rattle.std.proofs.Common.{inr}
 use Rattle.std.proofs.lemmas.Bool.{both_ways, cases_Bool}
-use Rattle.std.specs.declared.alloc.AllocError.{AllocError}
+use Rattle.std.specs.Option.{IfSome}
+use Rattle.std.specs.Prelude.{is_none, is_some, not}
 use Rattle.std.specs.declared.alloc.Global.{Global}
 use Rattle.std.specs.declared.vec.Vec.{Vec}
 use Rattle.cg_aig.specs.Aig.{aig_ops}
@@ -22,33 +23,55 @@ use Rattle.cg_lrat.specs.declared.log.Log.{Log}
 use Rattle.cg_hold.proofs.ListNumber.{claim_number}
 use Rattle.cg_machine.specs.Machine.{IsMachine, MachineData}
 use Rattle.cg_unroll.specs.Claims.{IsClaim}
+use Rattle.cg_unroll.specs.Holding.{TellsClaim}
 use Rattle.cg_unroll.specs.declared.claim.Claim.{Claim}
 
-module _ (law : NeverIsTried) (m : MachineData) (q : Question) (width : ℕ) (claim : Claim) (good : IsMachine m) (fits : SidesFit m q.sides) (is : IsClaim m q width claim) where
-  number_is : claim.aig.number ≡ width_of m q
-  number_is = ap (λ s. s.number) is.list ∙ claim_number m q
+-- a claim that was built tells itself
+pub told : (m : MachineData) (q : Question) (width : ℕ) (claim : Claim) → IsClaim m q width claim → TellsClaim m q width claim
+told m q width claim is = record {
+  number = ap (λ (s : Seen). s.number) is.list;
+  bits = λ bits. ap (λ (s : Seen). aig_ops.bit s bits claim.goal) is.list ∙ ap (λ a. aig_ops.bit (claim_run m q).domain bits a) is.goal;
+  leaves = is.leaves;
+  narrow = is.narrow;
+  small = is.small;
+  valid = is.valid;
+}
 
-  bit_is : (bits : List Bool) → aig_ops.bit claim.aig bits claim.goal ≡ goal_bit m q bits
-  bit_is bits = ap (λ s. aig_ops.bit s bits claim.goal) is.list ∙ ap (λ a. aig_ops.bit (claim_run m q).domain bits a) is.goal
+module _ (law : NeverIsTried) (m : MachineData) (q : Question) (width : ℕ) (claim : Claim) (good : IsMachine m) (fits : SidesFit m q.sides) (tells : TellsClaim m q width claim) where
+  number_is : claim.aig.number ≡ width_of m q
+  number_is = tells.number ∙ claim_number m q
 
   pub decided_never : IsNeverOne claim.aig claim.goal → true ≡ is_never m q
-  decided_never never = sym ((law m q good fits).1 (λ bits long. sym (bit_is bits) ∙ never bits (long ∙ sym number_is)))
+  decided_never never = sym ((law m q good fits).1 (λ bits long. sym (tells.bits bits) ∙ never bits (long ∙ sym number_is)))
 
   pub decided_sometimes : (bits : List Bool) → IsOneAt claim.aig claim.goal bits → false ≡ is_never m q
   decided_sometimes bits one = elim (cases_Bool (is_never m q)) [
-    | inl tried ↦ absurd (both_ways (goal_bit m q bits) ((law m q good fits).0 tried bits (one.each_leaf ∙ number_is)) (sym (bit_is bits) ∙ one.one))
-    | inr not ↦ sym not
+    | inl tried ↦ absurd (both_ways (goal_bit m q bits) ((law m q good fits).0 tried bits (one.each_leaf ∙ number_is)) (sym (tells.bits bits) ∙ one.one))
+    | inr other ↦ sym other
   ]
 
+  -- whether bits were found that violate it
+  pub found : (o : Option (Vec Bool Global)) → (o ≡ None → IsNeverOne claim.aig claim.goal) → IfSome o (λ bits. IsOneAt claim.aig claim.goal bits.items) → is_none o ≡ is_never m q
+  found None never some = decided_never (never refl)
+  found (Some bits) never some = decided_sometimes bits.items some
+
+-- whether nothing was found, as it is told
+pub none_told : (o : Option (Vec Bool Global)) (b : Bool) → is_some o ≡ not b → b ≡ is_none o
+none_told None true is = refl
+none_told None false is = absurd (cc)
+none_told (Some bits) true is = absurd (cc)
+none_told (Some bits) false is = refl
+
+-- what is found in a list that is the claim's
+pub found_there : (s t : Seen) (g h : ℕ) (o : Option (Vec Bool Global)) → s ≡ t → g ≡ h → IfSome o (λ bits. IsOneAt s g bits.items) → IfSome o (λ bits. IsOneAt t h bits.items)
+found_there s t g h o same goals is = subst (λ z. IfSome o (λ bits. IsOneAt z h bits.items)) same (subst (λ z. IfSome o (λ bits. IsOneAt s z bits.items)) goals is)
+
+pub never_there : (s t : Seen) (g h : ℕ) (o : Option (Vec Bool Global)) → s ≡ t → g ≡ h → (o ≡ None → IsNeverOne s g) → o ≡ None → IsNeverOne t h
+never_there s t g h o same goals is none = subst (λ z. IsNeverOne z h) same (subst (λ z. IsNeverOne s z) goals (is none))
+
 -- a decision, as it is told
-pub never_decided : (s t : Seen) (g h : ℕ) (d : Decision) (f : Formula) (log : Log) → s ≡ t → g ≡ h → IsExact s g d → d ≡ Never f log → IsNeverOne t h
-never_decided s t g h d f log same goals exact is = subst (λ z. IsNeverOne z h) same (subst (λ z. IsNeverOne s z) goals (subst (IsExact s g) is exact))
+pub exactly_never : (s : Seen) (g : ℕ) (d : Decision) (f : Formula) (log : Log) → IsExact s g d → d ≡ Never f log → IsNeverOne s g
+exactly_never s g d f log exact is = subst (IsExact s g) is exact
 
-pub sometimes_decided : (s t : Seen) (g h : ℕ) (d : Decision) (bits : Vec Bool Global) → s ≡ t → g ≡ h → IsExact s g d → d ≡ Sometimes bits → IsOneAt t h bits.items
-sometimes_decided s t g h d bits same goals exact is = subst (λ z. IsOneAt z h bits.items) same (subst (λ z. IsOneAt s z bits.items) goals (subst (IsExact s g) is exact))
-
--- what is known of each claim that was built, of one
-pub of_claim : (r : Result Bool AllocError) (claim : Claim) (m : MachineData) (q : Question) (width : ℕ) → IsMachine m → SidesFit m q.sides → IsClaim m q width claim
-    → IfOk r (λ b. (n : MachineData) (p : Question) (w : ℕ) → IsMachine n → SidesFit n p.sides → IsClaim n p w claim → b ≡ is_never n p) → IfOk r (λ b. b ≡ is_never m q)
-of_claim (Ok b) claim m q width good fits is known = known m q width good fits is
-of_claim (Err e) claim m q width good fits is known = tt
+pub exactly_sometimes : (s : Seen) (g : ℕ) (d : Decision) (bits : Vec Bool Global) → IsExact s g d → d ≡ Sometimes bits → IsOneAt s g bits.items
+exactly_sometimes s g d bits exact is = subst (IsExact s g) is exact

@@ -8,7 +8,6 @@ pub mod Lanes
 pub mod Layings
 pub mod ListNumber
 pub mod Marked
-pub mod Moved
 pub mod MovedInWords
 pub mod OfRegister
 pub mod Ranked

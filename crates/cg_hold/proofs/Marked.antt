@@ -5,7 +5,6 @@ use Rattle.std.proofs.lemmas.List.{length-set}
 use Rattle.std.proofs.lemmas.Option.{none-some, same_Some, slice_get_within}
 use Rattle.cg_claim.specs.LeafBits.{is_never}
 use Rattle.cg_claim.specs.Question.{hold_question}
-use Rattle.cg_hold.specs.inner.Choosing.{AreMoved}
 use Rattle.cg_hold.specs.inner.Looking.{AreMarked}
 use Rattle.cg_machine.specs.Claims.{Literal}
 use Rattle.cg_machine.specs.Machine.{MachineData}
@@ -51,7 +50,3 @@ module _ (m : MachineData) (r : ℕ) (literals : List Literal) where
           | inr e ↦ are.moved k j there (sym (slice_get-set_other marks place k b e) ∙ put)
         ];
   }
-
-  -- the literals before the first without a mark
-  pub moved_before : (marks : List Bool) (place : ℕ) → ((k : ℕ) → k < place → slice_get marks k ≡ Some true) → AreMarked m r literals marks → AreMoved m r literals place
-  moved_before marks place open' are k l less at = are.moved k l at (open' k less)

@@ -25,10 +25,9 @@ use Rattle.cg_unroll.specs.declared.claim.ClaimFault.TheVariants.{Wide as WideFa
 use Rattle.cg_unroll.proofs.FewLeaves.{few_leaves}
 use Rattle.cg_hold.specs.declared.choice.Choice.{Choice}
 use Rattle.cg_hold.specs.declared.choice.Choice.TheVariants.{Wide, Takes}
-use Rattle.cg_hold.specs.declared.trial.Room.TheVariants.{Ample}
 use Rattle.cg_hold.specs.declared.trial.Trial.{Trial}
 use Rattle.cg_hold.specs.declared.trial.Trial.TheVariants.{TooWide, Serves, Fails}
-use Rattle.cg_hold.specs.inner.Choosing.{HasRoom, IsLiteralOf, IsRoom, choice_by, is_good, refused_room, refused_trial, trial_of}
+use Rattle.cg_hold.specs.inner.Choosing.{IsLiteralOf, choice_by, refused_trial, trial_of}
 
 -- the literals from a place on
 pub drop_at : (ls : List Literal) (i : ℕ) (l : Literal) → slice_get ls i ≡ Some l → drop i ls ≡ l ∷ drop (i + 1) ls
@@ -169,17 +168,6 @@ refused_is widths m good r l of width ClaimMemory is = inl refl
 abbrev pub okay : Choice → Result Choice AddFault
 okay choice = Ok choice
 
--- what is known of the hold claims of a register where one is refused
-pub refused_room_is : HoldWidthsAreOne → (m : MachineData) → IsMachine m → (r : ℕ) (l : Literal) → IsLiteralOf m r l → (width : ℕ) (fault : ClaimFault) → IsRefused m (hold_question l r) width fault → IsRoom m width r (refused_room fault)
-refused_room_is widths m good r l of width (WideFault n) is = is_wide widths m good r l of width n is.0 is.1
-refused_room_is widths m good r l of width (ClaimLimit which) is = tt
-refused_room_is widths m good r l of width ClaimMemory is = tt
-
-pub not_ample : (fault : ClaimFault) → refused_room fault ≡ Ample → ⊥
-not_ample (WideFault n) is = cc
-not_ample (ClaimLimit which) is = cc
-not_ample ClaimMemory is = cc
-
 -- where they are too wide, so much comes of the register, whatever its literals
 pub all_wide : (m : MachineData) (width r : ℕ) (ls : List Literal) → nat_lt width (hold_width m r) ≡ true → choice_by m width r ls ≡ Ok Wide
 all_wide m width r ls wide = go (nat_lt width (hold_width m r)) wide
@@ -195,31 +183,6 @@ no_literals (x ∷ xs) n b long is empty = let e : n ≡ 0 = eqb-true n 0 (sym i
 pub some_literals : (xs : List Literal) (n : ℕ) (b : Bool) → n ≡ length xs → b ≡ nat_eq n 0 → b ≡ false → 0 < length xs
 some_literals [] n b long is full = absurd (both_ways b full (is ∙ ap (λ k. nat_eq k 0) long))
 some_literals (x ∷ xs) n b long is full = omega arith
-
--- the trial of a literal of a register with room
-module _ (m : MachineData) (width r : ℕ) (l : Literal) (room : HasRoom m width r) (of : IsLiteralOf m r l) where
-  abbrev of_trial : Trial → Result Trial AddFault
-  of_trial t = Ok t
-
-  said : (t : Trial) (b : Bool) → of_trial t ≡ of_trial (if b then Serves else Fails) → is_good t ≡ b
-  said Serves true h = refl
-  said Serves false h = absurd (cc)
-  said Fails true h = absurd (cc)
-  said Fails false h = refl
-  said TooWide true h = absurd (cc)
-  said TooWide false h = absurd (cc)
-
-  -- it is good exactly where the literal serves
-  pub good_trial : (t : Trial) → trial_of m width r l ≡ Ok t → is_good t ≡ serves m r l
-  good_trial t is = said t (serves m r l) (sym is ∙ judged m width r l room.0 (room.1 l of))
-
-  -- and there is no fault but want of memory
-  pub no_fault : (f : AddFault) → (f ≡ NoMemory) ⊎ (trial_of m width r l ≡ Err f) → f ≡ NoMemory
-  no_fault f (inl is) = is
-  no_fault f (inr is) = absurd (differ (if serves m r l then Serves else Fails) (sym (judged m width r l room.0 (room.1 l of)) ∙ is))
-    where
-      differ : (t : Trial) → of_trial t ≡ Err f → ⊥
-      differ t h = cc
 
 -- at the largest width the fault of a claim that has no more nodes than it may have is want of memory
 pub wants_memory : (m : MachineData) → IsMachine m → (q : Question) (fault : ClaimFault) → nodes_of m q ≤ MOST_CLAIM_NODES → IsRefused m q 4294967295 fault → fault ≡ ClaimMemory

@@ -13,7 +13,6 @@ use Rattle.cg_claim.specs.Reach.{after_states, before_nets, before_states, feeds
 use Rattle.cg_claim.specs.declared.leaf.LeafSource.{LeafSource}
 use Rattle.cg_claim.specs.declared.leaf.LeafSource.TheVariants.{Input as InputOf, Register as RegisterOf}
 use Rattle.cg_hold.proofs.Alone.{mapped_length, split_filter}
-use Rattle.cg_hold.proofs.Room.{in_cone}
 use Rattle.cg_machine.specs.Machine.{IsMachine, MachineData}
 use Rattle.cg_net.specs.NetSets.{is_in}
 use Rattle.cg_netlist.proofs.Filtered.{range_in, to_filter}
@@ -23,6 +22,7 @@ use Rattle.cg_stage_groups.proofs.FrontShows.{feeds_within}
 use Rattle.cg_stage_groups.specs.Support.{StandsOnMore}
 use Rattle.cg_stage_list_laws.specs.HoldList.{hold_width}
 use Rattle.cg_stage_list_laws.specs.Supports.{input_cone}
+use Rattle.cg_unroll.proofs.HoldAlike.{in_cone}
 
 module _ (m : MachineData) (good : IsMachine m) (r : ℕ) (below : r < length m.circuit.registers) where
   abbrev q : Question

@@ -1,30 +1,29 @@
 //! What comes of one literal: some cycle shows that it does not hold the register, which marks tell, or its claims decide.
 
-ghost use Rattle.std.specs.Prelude.{◌≡◌, ◌<◌, ◌+◌, ◌∷◌, [], ℕ, true, if◌then◌else◌, IsTrue, IfErr, IfOk, OnOk, length, nat_lt, Some, slice_get};
+ghost use Rattle.std.specs.Prelude.{◌≡◌, ◌<◌, ◌∷◌, [], ℕ, None, Some, if◌then◌else◌, IsTrue, IfErr, IfOk, OnOk, length, nat_lt, slice_get, true};
+ghost use Rattle.std.specs.Option.{IfSome};
 ghost use Rattle.cg_aig.specs.Aig.{aig_ops};
 ghost use Rattle.cg_claim.specs.LeafBits.{is_never};
-ghost use Rattle.cg_claim.specs.Question.{Question, hold_question, idle_question};
-ghost use Rattle.cg_claim.specs.Violates.{SidesFit};
+ghost use Rattle.cg_claim.specs.Question.{hold_question, idle_question};
 ghost use Rattle.cg_claim_reach.specs.Reached.{IsConeOf};
+ghost use Rattle.cg_cnf.specs.Clauses.{IsOneAt};
 ghost use Rattle.cg_decide.specs.Decision.{IsNeverOne};
-ghost use Rattle.cg_hold.specs.inner.Choosing.{HasRoom, IdleFits, IsLiteralOf, IsRoom, is_good, refused_room, refused_trial, trial_of};
+ghost use Rattle.cg_hold.specs.inner.Choosing.{IdleFits, refused_trial, trial_of};
 ghost use Rattle.cg_hold.specs.inner.Cycles.{AreCycles};
 ghost use Rattle.cg_hold.specs.inner.Looking.{AreMarked, IsLook, AreConeCycles};
 ghost use Rattle.cg_limit.specs.Answers.{OrNoMemory};
+ghost use Rattle.cg_machine.specs.Claims.{Literal};
 ghost use Rattle.cg_stage_list_laws.specs.HoldList.{hold_width, serves};
 ghost use Rattle.cg_stage_list_laws.specs.Supports.{input_cone};
-ghost use Rattle.cg_machine.specs.Machine.{IsMachine, MachineData};
-ghost use Rattle.cg_limit.specs.declared.TheConstants.{MOST_CLAIM_NODES};
 ghost use Rattle.cg_netlist.specs.declared.fault.AddFault.TheVariants.{NoMemory};
-ghost use Rattle.cg_unroll.specs.Claims.{IsClaim};
+ghost use Rattle.cg_unroll.specs.Holding.{IsHolding, TellsClaim};
 
 use crate::cone_cycles::ConeCycles;
 use crate::cycles::Cycles;
 use crate::search::{Look, Search};
-use cg_aig::Aig;
+use cg_aig::{Aig, AigLit};
 use cg_claim::laws::claim_laws;
 use cg_decide::{Decider, Decision};
-use cg_limit::MOST_CLAIM_NODES;
 use cg_machine::cone::ConeFinder;
 use cg_machine::machine::Machine;
 use cg_machine::stage::NetLit;
@@ -34,6 +33,7 @@ use cg_netlist_cone::cone::Cone;
 use cg_stage_groups::finder::SupportFinder;
 use cg_stage_list_laws::laws::list_laws;
 use cg_unroll::claim::ClaimFault;
+use cg_unroll::hold::HoldClaims;
 use cg_unroll::unroller::Unroller;
 use std::alloc::{AllocError, Global};
 
@@ -50,32 +50,19 @@ pub(crate) enum Trial {
     Fails,
 }
 
-/// What is known of the hold claims of a register.
-#[derive(Clone, Copy)]
-pub(crate) enum Room {
-    /// They are too wide.
-    TooWide,
-
-    /// None of them is refused.
-    Ample,
-
-    /// Nothing.
-    Unknown,
-}
-
 /// What tries literals one after another, in buffers that are kept.
 #[derive(Drop)]
 pub(crate) struct Trier {
     /// What finds the literals.
     pub finder: SupportFinder,
 
+    /// The hold claims of the register that is looked at.
+    pub claims: HoldClaims,
+
     unroller: Unroller,
     decider: Decider,
     cones: ConeFinder,
     cycles: ConeCycles,
-
-    /// The bits that violate the claim that was built last, where some were found.
-    last: Option<Vec<bool>>,
 }
 
 impl Trier {
@@ -83,11 +70,11 @@ impl Trier {
     pub fn new(alloc: Global) -> Trier {
         Trier {
             finder: SupportFinder::new(alloc),
+            claims: HoldClaims::new(alloc),
             unroller: Unroller::new(alloc),
             decider: Decider::new(alloc),
             cones: ConeFinder::new(alloc),
             cycles: ConeCycles::new(alloc),
-            last: None,
         }
     }
 
@@ -107,69 +94,75 @@ impl Trier {
         Ok(more)
     }
 
-    /// What is known of the hold claims of a register by that of a literal of the cone of its inputs: they are equally wide,
-    /// and differ by one and-node at most. Where none of them is refused, that of the literal stands.
-    pub fn measure(&mut self, machine: &Machine, literal: NetLit, reg: RegId, width: u32) -> Room
-        requires register { reg < machine.now.own_registers }
-        requires literal { IsLiteralOf machine.now reg literal }
-        ensures room { IsRoom machine.now width reg result }
-        ensures stands { result ≡ Room.Ample → IsClaim machine.now (hold_question literal reg) width self.new.unroller }
-    {
-        list_laws();
-        let _netlist = machine.netlist();
-        match self.unroller.hold(machine, literal, reg, width) {
-            Ok(()) => room_of(nodes(self.unroller.aig())),
-            Err(fault) => refused_room(fault),
-        }
-    }
-
-    /// What comes of a literal of the cone of a register's inputs, by its claims.
-    pub fn try_literal(
+    /// What comes of the literal at a place, of a register whose hold claims are being built. What its claim tells is marked; that of
+    /// a literal with a mark is built only where it may be refused.
+    pub fn look_at(
         &mut self,
-        search: &Search<'_>,
-        literal: NetLit,
-        reg: RegId,
+        look: &Look<'_>,
+        marks: &mut [bool],
+        place: usize,
     ) -> Result<Trial, AddFault>
-        requires register { reg < search.now.machine.now.own_registers }
-        requires literal { IsLiteralOf search.now.machine.now reg literal }
-        requires cycles { AreCycles search.now.machine.now search.now.cycles.now.cycles }
-        ensures { OrNoMemory NoMemory (λ trial. trial) result (trial_of search.now.machine.now search.now.width reg literal) }
+        requires look { IsLook look.now.search.now.machine.now look.now.reg look.now.nets.now look.now.cone.now look.now.literals.now }
+        requires cycles { AreCycles look.now.search.now.machine.now look.now.search.now.cycles.now.cycles }
+        requires marks { AreMarked look.now.search.now.machine.now look.now.reg look.now.literals.now marks.old }
+        requires holding { IsHolding look.now.search.now.machine.now look.now.reg look.now.search.now.width self.old.claims }
+        requires place { place < length look.now.literals.now }
+        ensures trial { (l : Literal) → slice_get look.now.literals.now place ≡ Some l
+            → OrNoMemory NoMemory (λ trial. trial) result (trial_of look.now.search.now.machine.now look.now.search.now.width look.now.reg l) }
+        ensures marks { OnOk result (AreMarked look.now.search.now.machine.now look.now.reg look.now.literals.now marks.new) }
+        ensures holding { OnOk result (IsHolding look.now.search.now.machine.now look.now.reg look.now.search.now.width self.new.claims) }
     {
         list_laws();
-        let _netlist = search.machine.netlist();
+        let _netlist = look.search.machine.netlist();
+        let marked = marks[place];
+        if marked && self.claims.has_room() {
+            return Ok(Trial::Fails);
+        }
+        let literal = look.literals[place];
         match self
-            .unroller
-            .hold(search.machine, literal, reg, search.width)
+            .claims
+            .claim(look.search.machine, literal, look.reg, look.search.width)
         {
             Ok(()) => {
-                let good = self.serves(search, literal, reg)?;
+                if marked {
+                    return Ok(Trial::Fails);
+                }
+                let good = self.serves(look, marks, literal)?;
                 Ok(tried(good))
             }
             Err(fault) => refused(fault),
         }
     }
 
-    /// Whether a literal serves whose hold claim was built last.
-    pub fn serves(
+    /// Whether a literal serves whose hold claim was built last. The bits that violate this claim, and bits near to them, mark literals.
+    fn serves(
         &mut self,
-        search: &Search<'_>,
+        look: &Look<'_>,
+        marks: &mut [bool],
         literal: NetLit,
-        reg: RegId,
     ) -> Result<bool, AllocError>
-        requires register { reg < search.now.machine.now.own_registers }
-        requires net { literal.0 < length search.now.machine.now.circuit.names }
-        requires cycles { AreCycles search.now.machine.now search.now.cycles.now.cycles }
-        requires claim { IsClaim search.now.machine.now (hold_question literal reg) search.now.width self.old.unroller }
-        ensures { IfOk result (λ good. good ≡ serves search.now.machine.now reg literal) }
+        requires look { IsLook look.now.search.now.machine.now look.now.reg look.now.nets.now look.now.cone.now look.now.literals.now }
+        requires cycles { AreCycles look.now.search.now.machine.now look.now.search.now.cycles.now.cycles }
+        requires marks { AreMarked look.now.search.now.machine.now look.now.reg look.now.literals.now marks.old }
+        requires net { literal.0 < length look.now.search.now.machine.now.circuit.names }
+        requires claim { TellsClaim look.now.search.now.machine.now (hold_question literal look.now.reg) look.now.search.now.width self.old.claims.claim }
+        ensures good { IfOk result (λ good. good ≡ serves look.now.search.now.machine.now look.now.reg literal) }
+        ensures marks { OnOk result (AreMarked look.now.search.now.machine.now look.now.reg look.now.literals.now marks.new) }
+        ensures claims { self.new.claims ≡ self.old.claims }
     {
         claim_laws();
-        let _netlist = search.machine.netlist();
-        let holds = self.is_never()?;
-        if !holds {
-            return Ok(false);
+        let _netlist = look.search.machine.netlist();
+        let found = violation(&mut self.decider, self.claims.aig(), self.claims.goal())?;
+        match found {
+            Some(bits) => {
+                self.mark_near(look, &bits, marks)?;
+                Ok(false)
+            }
+            None => {
+                let stays = self.is_never_idle(look.search.machine, look.search.cycles, literal)?;
+                Ok(!stays)
+            }
         }
-        let stays = self.is_never_idle(search.machine, search.cycles, literal)?;
-        Ok(!stays)
     }
 
     /// Whether a literal is never 0, where the claim that it can be is within its limit.
@@ -182,39 +175,25 @@ impl Trier {
         requires net { literal.0 < length machine.now.circuit.names }
         requires cycles { AreCycles machine.now cycles.now.cycles }
         requires small { IdleFits machine.now literal }
-        ensures { IfOk result (λ never. never ≡ is_never machine.now (idle_question (literal ∷ []))) }
+        ensures never { IfOk result (λ never. never ≡ is_never machine.now (idle_question (literal ∷ []))) }
+        ensures claims { self.new.claims ≡ self.old.claims }
     {
+        claim_laws();
         let _netlist = machine.netlist();
         if cycles.show_idle(machine, literal) {
             return Ok(false);
         }
         // No machine has as many leaves as this width.
         match self.unroller.idle(machine, &[literal], u32::MAX) {
-            Ok(()) => self.is_never(),
-            Err(fault) => Err(wanting(fault)),
-        }
-    }
-
-    /// Whether the goal of the claim that was built last is never 1.
-    fn is_never(&mut self) -> Result<bool, AllocError>
-        requires { IsTrue (aig_ops.is_valid self.old.unroller.aig self.old.unroller.goal) }
-        ensures { IfOk result (λ never. (m : MachineData) (q : Question) (width : ℕ) → IsMachine m → SidesFit m q.sides → IsClaim m q width self.old.unroller
-            → never ≡ is_never m q) }
-    {
-        claim_laws();
-        let shown = is_shown(&mut self.decider, &self.unroller)?;
-        if shown {
-            return Ok(true);
-        }
-        let decision = self
-            .decider
-            .decide(self.unroller.aig(), self.unroller.goal())?;
-        match decision {
-            Decision::Never(_, _) => Ok(true),
-            Decision::Sometimes(bits) => {
-                self.last = Some(bits);
-                Ok(false)
+            Ok(()) => {
+                let found = violation(
+                    &mut self.decider,
+                    self.unroller.aig(),
+                    self.unroller.goal(),
+                )?;
+                Ok(found.is_none())
             }
+            Err(fault) => Err(wanting(fault)),
         }
     }
 
@@ -228,25 +207,6 @@ impl Trier {
         let inputs = netlist.register(reg).inputs;
         let cone = self.cones.find(machine, inputs)?;
         Ok(cone)
-    }
-
-    /// Whether a literal of a register serves, none of whose hold claims is refused.
-    pub fn try_in_room(
-        &mut self,
-        search: &Search<'_>,
-        literal: NetLit,
-        reg: RegId,
-    ) -> Result<bool, AddFault>
-        requires register { reg < search.now.machine.now.own_registers }
-        requires literal { IsLiteralOf search.now.machine.now reg literal }
-        requires cycles { AreCycles search.now.machine.now search.now.cycles.now.cycles }
-        requires room { HasRoom search.now.machine.now search.now.width reg }
-        ensures good { IfOk result (λ good. good ≡ serves search.now.machine.now reg literal) }
-        ensures failed { IfErr result (λ fault. fault ≡ NoMemory) }
-    {
-        let _netlist = search.machine.netlist();
-        let trial = self.try_literal(search, literal, reg)?;
-        Ok(is_good(trial))
     }
 
     /// Marks literals by rounds of random bits, until a round marks none.
@@ -265,55 +225,42 @@ impl Trier {
         Ok(())
     }
 
-    /// Marks literals by the bits that violate the claim that was built last, where some were found, and by bits near to them.
-    pub fn mark_near(&mut self, look: &Look<'_>, marks: &mut [bool]) -> Result<(), AllocError>
+    /// Marks literals by bits of the leaves of the register's claims that violate one of them, and by bits near to these.
+    fn mark_near(
+        &mut self,
+        look: &Look<'_>,
+        bits: &[bool],
+        marks: &mut [bool],
+    ) -> Result<(), AllocError>
         requires look { IsLook look.now.search.now.machine.now look.now.reg look.now.nets.now look.now.cone.now look.now.literals.now }
         requires marks { AreMarked look.now.search.now.machine.now look.now.reg look.now.literals.now marks.old }
-        ensures { OnOk result (AreMarked look.now.search.now.machine.now look.now.reg look.now.literals.now marks.new) }
+        ensures marks { OnOk result (AreMarked look.now.search.now.machine.now look.now.reg look.now.literals.now marks.new) }
+        ensures claims { self.new.claims ≡ self.old.claims }
     {
-        let last = std::mem::replace(&mut self.last, None);
-        if let Some(bits) = last {
-            self.cycles.take(look, self.unroller.leaves(), &bits)?;
-            mark(look, &self.cycles, marks);
-        }
+        self.cycles.take(look, self.claims.leaves(), bits)?;
+        mark(look, &self.cycles, marks);
         Ok(())
     }
 }
 
-/// Whether it is seen at once that the goal of the claim that was built last is never 1.
-fn is_shown(decider: &mut Decider, unroller: &Unroller) -> Result<bool, AllocError>
-    requires { IsTrue (aig_ops.is_valid unroller.now.aig unroller.now.goal) }
-    ensures { IfOk result (λ never. never ≡ true → IsNeverOne unroller.now.aig unroller.now.goal) }
+/// Bits of the leaves at which a goal is 1, and none where it never is.
+fn violation(
+    decider: &mut Decider,
+    aig: &Aig,
+    goal: AigLit,
+) -> Result<Option<Vec<bool>>, AllocError>
+    requires { IsTrue (aig_ops.is_valid aig.now goal) }
+    ensures never { IfOk result (λ found. found ≡ None → IsNeverOne aig.now goal) }
+    ensures sometimes { IfOk result (λ found. IfSome found (λ bits. IsOneAt aig.now goal bits.items)) }
 {
-    decider.shows_never(unroller.aig(), unroller.goal())
-}
-
-/// How many leaves and and-nodes a list has.
-fn nodes(aig: &Aig) -> u32
-    ensures { result ≡ aig.now.number + length aig.now.pairs }
-{
-    aig.leaves() + aig.ands()
-}
-
-/// What is known of the hold claims of a register where one of them has so many leaves and and-nodes.
-fn room_of(nodes: u32) -> Room
-    ensures { result ≡ (if nat_lt nodes MOST_CLAIM_NODES then Room.Ample else Room.Unknown) }
-{
-    if nodes < MOST_CLAIM_NODES {
-        Room::Ample
-    } else {
-        Room::Unknown
+    let shown = decider.shows_never(aig, goal)?;
+    if shown {
+        return Ok(None);
     }
-}
-
-/// What is known of the hold claims of a register where one of them is refused so.
-fn refused_room(fault: ClaimFault) -> Room
-    ensures { result ≡ refused_room fault }
-{
-    match fault {
-        ClaimFault::Wide(_) => Room::TooWide,
-        ClaimFault::Limit(_) => Room::Unknown,
-        ClaimFault::NoMemory => Room::Unknown,
+    let decision = decider.decide(aig, goal)?;
+    match decision {
+        Decision::Never(_, _) => Ok(None),
+        Decision::Sometimes(bits) => Ok(Some(bits)),
     }
 }
 
@@ -322,16 +269,6 @@ fn tried(good: bool) -> Trial
     ensures { result ≡ (if good then Trial.Serves else Trial.Fails) }
 {
     if good { Trial::Serves } else { Trial::Fails }
-}
-
-/// Whether a literal serves of which this comes.
-fn is_good(trial: Trial) -> bool
-    ensures { result ≡ is_good trial }
-{
-    match trial {
-        Trial::Serves => true,
-        Trial::Fails | Trial::TooWide => false,
-    }
 }
 
 /// What comes of a literal whose hold claim is refused so.
@@ -394,18 +331,4 @@ pub(crate) fn mark(look: &Look<'_>, cycles: &ConeCycles, marks: &mut [bool]) -> 
         }
     }
     any
-}
-
-/// The place of the first literal without a mark; behind the last where there is none.
-pub(crate) fn first_open(marks: &[bool]) -> usize
-    ensures { (k : ℕ) → k < result → slice_get marks.now k ≡ Some true }
-{
-    let mut place = 0;
-    for marked in marks {
-        if !*marked {
-            return place;
-        }
-        place += 1;
-    }
-    place
 }

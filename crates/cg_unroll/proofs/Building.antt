@@ -62,6 +62,10 @@ pub if_ok : {T E : Type 0} (P Q : T → Type 0) (r : Result T E) → ((x : T) �
 if_ok P Q (Ok x) f h = f x h
 if_ok P Q (Err e) f h = tt
 
+pub on_if : {T E P : Type 0} (Q : T → Type 0) (r : Result T E) → ((x : T) → Q x → P) → IfOk r Q → OnOk r P
+on_if Q (Ok x) f h = f x h
+on_if Q (Err e) f h = tt
+
 pub map_same_list : (xs : List ℕ) → map (λ (a : ℕ). a) xs ≡ xs
 map_same_list [] = refl
 map_same_list (x ∷ xs) = ap (λ l. x ∷ l) (map_same_list xs)

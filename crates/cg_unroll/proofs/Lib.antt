@@ -5,6 +5,8 @@ pub mod FewLeaves
 pub mod Filling
 pub mod Fronts
 pub mod Gating
+pub mod HoldAlike
+pub mod Holds
 pub mod Joining
 pub mod Kept
 pub mod Laying

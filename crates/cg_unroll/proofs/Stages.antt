@@ -3,7 +3,8 @@ use Rattle.std.proofs.Common.{◌≡◌, ℕ, ◌+◌, ◌≤◌, Bool, true, fa
 use Rattle.std.proofs.Common.{slice_index_or, refl, sym, ◌∙◌, ap, subst, arith}
 use Rattle.std.specs.List.{filter, flat_map}
 use Rattle.std.proofs.lemmas.Bool.{and_from, lt-ltb, not_from_false, or_right}
-use Rattle.cg_cell.specs.Domain.{Seen}
+use Rattle.cg_cell.specs.Domain.{Keeps, Seen}
+use Rattle.cg_aig.specs.Aig.{aig_ops}
 use Rattle.cg_aig.specs.declared.fault.AigFault.{AigFault}
 use Rattle.cg_netlist.specs.Circuit.{data_inputs}
 use Rattle.cg_net.specs.NetSets.{is_in}
@@ -27,12 +28,14 @@ use Rattle.cg_unroll.specs.declared.tables.Tables.{Tables}
 use Rattle.cg_unroll.specs.declared.tables.Sources.TheVariants.{Inputs, Registers}
 use Rattle.cg_unroll.specs.Building.{MayFail, table_of}
 use Rattle.cg_unroll.specs.inner.Copying.{Starts, copies_of}
+use Rattle.cg_unroll.specs.Holding.{HoldsBefore}
 use Rattle.cg_unroll.specs.Laid.{CopyFails, HoldsInputs, LaysCopy, copy_table}
 use Rattle.cg_unroll.specs.Placing.{FillsLeaves, place_in}
 use Rattle.cg_claim_reach.specs.Reached.{IsReached}
 use Rattle.cg_unroll.specs.inner.States.{Carries, LaysStates, TellsFollows, carried}
 use Rattle.cg_unroll.proofs.Building.{fails_longer}
 use Rattle.cg_unroll.proofs.LeafTables.{leaf_is_some, no_input, table_is}
+use Rattle.cg_unroll.proofs.Sides.{table_later}
 use Rattle.cg_unroll.proofs.StatesLaid.{so_far}
 use Rattle.std.proofs.Math.Bool.{and-false}
 use Rattle.cg_netlist.proofs.Filtered.{in_filter, range_in, to_filter}
@@ -105,6 +108,10 @@ module _ (m : MachineData) (good : IsMachine m) (q : Question) (fits : SidesFit 
   module _ (s1 : Seen) (nets0 : List ℕ) (lays0 : LaysCopy m reached.before start.before.states s s1 start.before.nets nets0) where
     before_is : SameOn (is_in (before_nets m q)) (table_of s1 nets0) before
     before_is = same_then (is_in (before_nets m q)) (table_of s1 nets0) (copy_table m (before_nets m q) (ins Before) start.before.states s) before (lays0.same before_roots (ins Before) reaches.before before_holds) from_leaves
+
+    -- and it is so in a list that has grown since
+    pub before_stays : (t : Seen) → Keeps aig_ops s1 t → HoldsBefore m q s t nets0
+    before_stays t keeps = record { table = table_later (length m.circuit.names) s1 t nets0 keeps lays0.table; at = λ y among. before_is.at y among }
 
     abbrev nets_at : ℕ → ℕ
     nets_at x = slice_index_or nets0 x 0

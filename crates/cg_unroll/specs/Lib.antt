@@ -1,5 +1,6 @@
 pub mod Building
 pub mod Claims
+pub mod Holding
 pub mod Laid
 pub mod Placing
 pub mod Sparse

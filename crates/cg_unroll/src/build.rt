@@ -3,11 +3,15 @@
 ghost use Rattle.std.specs.Prelude.{◌≡◌, IfErr, IfOk, IsTrue, OnOk, length};
 ghost use Rattle.cg_aig.specs.Aig.{aig_ops};
 ghost use Rattle.cg_cell.specs.Build.{Builds};
-ghost use Rattle.cg_claim.specs.Build.{aig_values, claim_run, question_run};
+ghost use Rattle.cg_claim.specs.Build.{aig_values, claim_run, leaf_list, question_run};
+ghost use Rattle.cg_claim.specs.Leaves.{width_of};
 ghost use Rattle.cg_claim_reach.specs.Asking.{AsksThere, question_of};
 ghost use Rattle.cg_unroll.specs.Building.{Built, MayFail};
+ghost use Rattle.cg_unroll.specs.Claims.{IsClaim, IsRefused};
+ghost use Rattle.cg_unroll.specs.Holding.{HoldsBefore};
 ghost use Rattle.cg_claim_reach.specs.Reached.{IsReached};
 
+use crate::claim::ClaimFault;
 use crate::copy::lay_copy;
 use crate::goal::goal_literal;
 use crate::states::{StateSources, carry_states, put_states};
@@ -24,7 +28,7 @@ use std::alloc::Global;
 pub(crate) struct Builder {
     pub(crate) aig: Aig,
     pub(crate) goal: AigLit,
-    tables: Tables,
+    pub(crate) tables: Tables,
     buffer: Vec<AigLit>,
 }
 
@@ -48,9 +52,35 @@ impl Builder {
         (self.aig, self.goal)
     }
 
+    /// Builds the list and the goal of a question that reaches this, if it is narrow. The leaves are those that are reached.
+    pub(crate) fn build_narrow(
+        &mut self,
+        machine: &Machine,
+        asked: &Asked<'_>,
+        reached: &Reached,
+        width: u32,
+    ) -> Result<(), ClaimFault>
+        requires asked { AsksThere machine.now (question_of asked.now) }
+        requires reached { IsReached machine.now (question_of asked.now) reached.now }
+        ensures claim { OnOk result (IsClaim machine.now (question_of asked.now) width
+            (record { aig = self.new.aig; goal = self.new.goal; leaves = reached.now.leaves })) }
+        ensures nets { OnOk result (HoldsBefore machine.now (question_of asked.now) (leaf_list (width_of machine.now (question_of asked.now)))
+            self.new.aig self.new.tables.before.nets) }
+        ensures refused { IfErr result (IsRefused machine.now (question_of asked.now) width) }
+    {
+        let _netlist = machine.netlist();
+        let count = reached.leaves.len();
+        if count > width as usize {
+            return Err(ClaimFault::Wide(count as u32));
+        }
+        self.build(machine, asked, reached)?;
+        let _leaves = self.aig.leaves();
+        Ok(())
+    }
+
     /// Builds the list and the goal of a claim in place of what was built before, at the cost of what the claim reaches
     /// and of the list that was there.
-    pub(crate) fn build(
+    fn build(
         &mut self,
         machine: &Machine,
         asked: &Asked<'_>,
@@ -60,6 +90,8 @@ impl Builder {
         requires reached { IsReached machine.now (question_of asked.now) reached.now }
         ensures built { OnOk result (Builds (claim_run machine.now (question_of asked.now)) self.new.aig self.new.goal) }
         ensures valid { OnOk result (IsTrue (aig_ops.is_valid self.new.aig self.new.goal)) }
+        ensures nets { OnOk result (HoldsBefore machine.now (question_of asked.now) (leaf_list (width_of machine.now (question_of asked.now)))
+            self.new.aig self.new.tables.before.nets) }
         ensures failed { IfErr result (λ fault. MayFail (claim_run machine.now (question_of asked.now)).domain fault) }
     {
         let leaves = reached.leaves.len();
@@ -93,6 +125,7 @@ fn build_claim(
     requires reached { IsReached machine.now (question_of asked.now) reached.now }
     requires leaves { length reached.now.leaves ≡ aig.old.number }
     ensures built { IfOk result (λ goal. Built aig.old aig.new goal (question_run aig_values machine.now (question_of asked.now) aig.old)) }
+    ensures nets { OnOk result (HoldsBefore machine.now (question_of asked.now) aig.old aig.new tables.new.before.nets) }
     ensures failed { IfErr result (λ fault. MayFail (question_run aig_values machine.now (question_of asked.now) aig.old).domain fault) }
 {
     let _netlist = machine.netlist();

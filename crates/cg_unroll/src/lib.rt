@@ -17,6 +17,7 @@
 //! - `goal`: the goal of a claim.
 //! - `build`: the list and the goal, built from what is reached.
 //! - `unroller`: the object that builds claims one after another, in buffers that are kept.
+//! - `hold`: the hold claims of one register, one literal after another.
 //! - `claim`: claims, and calls that build one each.
 #![tactic(auto)]
 
@@ -25,6 +26,7 @@ pub mod claim;
 pub mod copy;
 mod edge;
 pub mod goal;
+pub mod hold;
 mod lay;
 pub mod literals;
 pub mod next;

@@ -211,45 +211,21 @@ impl Unroller {
         ensures claim { OnOk result (IsClaim machine.now (question_of asked.now) width self.new) }
         ensures refused { IfErr result (IsRefused machine.now (question_of asked.now) width) }
     {
-        let built = self.build_narrow(machine, asked, &reached, width);
+        let built = self.builder.build_narrow(machine, asked, &reached, width);
         self.leaves = leaves_alone(reached);
         built
-    }
-
-    /// Builds the list and the goal of a question that reaches this, if it is narrow. The leaves are not put yet.
-    fn build_narrow(
-        &mut self,
-        machine: &Machine,
-        asked: &Asked<'_>,
-        reached: &Reached,
-        width: u32,
-    ) -> Result<(), ClaimFault>
-        requires asked { AsksThere machine.now (question_of asked.now) }
-        requires reached { IsReached machine.now (question_of asked.now) reached.now }
-        ensures claim { OnOk result (IsClaim machine.now (question_of asked.now) width
-            (record { aig = self.new.aig; goal = self.new.goal; leaves = reached.now.leaves })) }
-        ensures refused { IfErr result (IsRefused machine.now (question_of asked.now) width) }
-    {
-        let _netlist = machine.netlist();
-        let count = reached.leaves.len();
-        if count > width as usize {
-            return Err(ClaimFault::Wide(count as u32));
-        }
-        self.builder.build(machine, asked, reached)?;
-        let _leaves = self.builder.aig.leaves();
-        Ok(())
     }
 }
 
 /// The leaves of what a claim reaches, without the rest.
-fn leaves_alone(reached: Reached) -> Seq<Leaf>
+pub(crate) fn leaves_alone(reached: Reached) -> Seq<Leaf>
     ensures { result ≡ reached.leaves }
 {
     reached.leaves
 }
 
 /// That the next bit of a register, and its bit, differ in a copy.
-fn keeps(frame: Frame, reg: RegId) -> (Side, Side)
+pub(crate) fn keeps(frame: Frame, reg: RegId) -> (Side, Side)
     ensures { result ≡ (record { frame = frame; part = Part.Next reg }, record { frame = frame; part = Part.State reg }) }
 {
     let next = Side {

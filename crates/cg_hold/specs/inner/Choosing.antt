@@ -21,8 +21,6 @@ use Rattle.cg_unroll.specs.declared.claim.ClaimFault.{ClaimFault}
 use Rattle.cg_unroll.specs.declared.claim.ClaimFault.TheVariants.{Wide as WideFault, Limit as ClaimLimit, NoMemory as ClaimMemory}
 use Rattle.cg_hold.specs.declared.choice.Choice.{Choice}
 use Rattle.cg_hold.specs.declared.choice.Choice.TheVariants.{Wide, Takes}
-use Rattle.cg_hold.specs.declared.trial.Room.{Room}
-use Rattle.cg_hold.specs.declared.trial.Room.TheVariants.{TooWide as RoomTooWide, Ample, Unknown}
 use Rattle.cg_hold.specs.declared.trial.Trial.{Trial}
 use Rattle.cg_hold.specs.declared.trial.Trial.TheVariants.{TooWide, Serves, Fails}
 use Rattle.cg_hold.specs.inner.Packed.{literal_place}
@@ -30,28 +28,6 @@ use Rattle.cg_hold.specs.inner.Packed.{literal_place}
 -- a literal of the cone of a register's inputs
 abbrev pub IsLiteralOf : MachineData → ℕ → Literal → Type 0
 IsLiteralOf m r l = (is_in (input_cone m r) l.0 ≡ true) × (l.0 < length m.circuit.names)
-
--- no hold claim of a register is refused
-abbrev pub HasRoom : MachineData → ℕ → ℕ → Type 0
-HasRoom m width r =
-    (nat_lt width (hold_width m r) ≡ false) × ((l : Literal) → IsLiteralOf m r l → is_large m (hold_question l r) ≡ false)
-
--- the literals before a place do not hold a register
-abbrev pub AreMoved : MachineData → ℕ → List Literal → ℕ → Type 0
-AreMoved m r literals place =
-    (k : ℕ) (l : Literal) → k < place → slice_get literals k ≡ Some l → is_never m (hold_question l r) ≡ false
-
--- what is known of the hold claims of a register
-abbrev pub IsRoom : MachineData → ℕ → ℕ → Room → Type 0
-IsRoom m width r RoomTooWide = nat_lt width (hold_width m r) ≡ true
-IsRoom m width r Ample = HasRoom m width r
-IsRoom m width r Unknown = Unit {0}
-
--- what is known of them where one is refused so
-abbrev pub refused_room : ClaimFault → Room
-refused_room (WideFault n) = RoomTooWide
-refused_room (ClaimLimit which) = Unknown
-refused_room ClaimMemory = Unknown
 
 -- the claim that a literal can be 0 has no more leaves and and-nodes than a claim may have
 abbrev pub IdleFits : MachineData → Literal → Type 0
@@ -64,16 +40,17 @@ trial_of m width r l =
     else if is_large m (hold_question l r) then Err (LimitFault ClaimNodes)
     else Ok (if serves m r l then Serves else Fails)
 
--- whether a literal serves of which this comes
-abbrev pub is_good : Trial → Bool
-is_good Serves = true
-is_good _ = false
-
 -- what comes of a literal whose hold claim is refused so
 abbrev pub refused_trial : ClaimFault → Result Trial AddFault
 refused_trial (WideFault n) = Ok TooWide
 refused_trial (ClaimLimit which) = Err (LimitFault which)
 refused_trial ClaimMemory = Err NoMemory
+
+-- what comes of a register all of whose hold claims are refused so
+abbrev pub refused_choice : ClaimFault → Result Choice AddFault
+refused_choice (WideFault n) = Ok Wide
+refused_choice (ClaimLimit which) = Err (LimitFault which)
+refused_choice ClaimMemory = Err NoMemory
 
 -- what comes of a register with these literals
 abbrev pub choice_by : MachineData → ℕ → ℕ → List Literal → Result Choice AddFault

@@ -1,35 +1,19 @@
-use Rattle.std.proofs.Common.{length, nat_lt, if◌then◌else◌, subst}
-use Rattle.cg_claim.specs.Question.{hold_question}
-use Rattle.cg_machine.specs.Claims.{Literal}
-use Rattle.cg_unroll.specs.Claims.{IsClaim}
-use Rattle.cg_hold.specs.inner.Choosing.{IsRoom}
-use Rattle.cg_hold.proofs.Marked.{moved_before}
-use Rattle.cg_hold.proofs.Moved.{same_place}
-use Rattle.cg_hold.proofs.Trials.{all_wide}
+use Rattle.std.proofs.Common.{Result, arith, sym, subst}
+use Rattle.cg_limit.specs.Answers.{OrNoMemory}
+use Rattle.cg_netlist.specs.declared.fault.AddFault.{AddFault}
+use Rattle.cg_netlist.specs.declared.fault.AddFault.TheVariants.{NoMemory}
+use Rattle.cg_hold.specs.declared.choice.Choice.{Choice}
+use Rattle.cg_hold.specs.inner.Choosing.{choice_by}
+use Rattle.cg_hold.proofs.Room.{refused_all}
 use Rattle.cg_hold.proofs.choice.choose_among.Goals as goal
 
-pub measure-requires-clause-literal : goal.measure-requires-clause-literal
-measure-requires-clause-literal c =
-    let place = c.first_open-place.result in
-    c.requires.look.literals_of (if nat_lt place (length c.args.look.now.literals.now) then place else 0) c.literal_at.result c.literal_at.ensures
+pub start-requires : goal.start-requires
+start-requires c = let own = c.netlist-netlist.ensures.machine.own_registers in let below = c.requires.look.own in omega (arith, own, below)
 
-pub returns-in-TooWide : goal.returns-in-TooWide
-returns-in-TooWide c =
-    let m = c.args.look.now.search.now.machine.now in
-    let w = c.args.look.now.search.now.width in
-    let r = c.args.look.now.reg in
-    all_wide m w r c.args.look.now.literals.now (subst (IsRoom m w r) c.in-TooWide.is c.measure.ensures.room)
-
-pub choose_from-requires-clause-room : goal.choose_from-requires-clause-room
-choose_from-requires-clause-room c =
-    subst (IsRoom c.args.look.now.search.now.machine.now c.args.look.now.search.now.width c.args.look.now.reg) c.in-Ample.is c.measure.ensures.room
-
-pub choose_from-requires-clause-moved : goal.choose_from-requires-clause-moved
-choose_from-requires-clause-moved c =
-    moved_before c.args.look.now.search.now.machine.now c.args.look.now.reg c.args.look.now.literals.now c.args.marks.now c.first_open-place.result c.first_open-place.ensures c.requires.marks
-
-pub choose_from-requires-clause-claim : goal.choose_from-requires-clause-claim
-choose_from-requires-clause-claim c = λ l at.
-    let literal = c.literal_at.result in
-    subst (λ (x : Literal). IsClaim c.args.look.now.search.now.machine.now (hold_question x c.args.look.now.reg) c.args.look.now.search.now.width c.measure.new.self.unroller)
-    (same_place c.args.look.now.literals.now c.first_open-place.result literal l c.literal_at.ensures at) (c.measure.ensures.stands c.in-Ample.is)
+pub returns-in-Err : goal.returns-in-Err
+returns-in-Err c =
+    let look = c.args.look.now in
+    let m = look.search.now.machine.now in
+    let w = look.search.now.width in
+    subst (λ (z : Result Choice AddFault). OrNoMemory NoMemory (λ (t : Choice). t) z (choice_by m w look.reg look.literals.now)) (sym c.refused.ensures)
+    (refused_all m c.netlist-netlist.ensures.machine look.reg w look.literals.now c.requires.some c.requires.look.literals_of c.in-Err.fault c.in-Err.ensures.refused)

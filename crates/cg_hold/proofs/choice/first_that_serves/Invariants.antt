@@ -1,10 +1,12 @@
-use Rattle.std.proofs.Common.{◌≡◌, ◌<◌, false, drop, nat_lt}
-use Rattle.cg_stage_list_laws.specs.HoldList.{hold_width}
+use Rattle.std.proofs.Common.{◌≡◌, drop}
 use Rattle.cg_hold.specs.inner.Choosing.{choice_by}
+use Rattle.cg_hold.specs.inner.Looking.{AreMarked}
+use Rattle.cg_unroll.specs.Holding.{IsHolding}
 use Rattle.cg_hold.proofs.choice.first_that_serves.Given as goal
 
-abbrev pub invariant-loop-literal : goal.invariant-loop-literal
-invariant-loop-literal l = record {
-  left : choice_by l.search.machine.now l.search.width l.reg (drop l.literal-index l.literals) ≡ choice_by l.search.machine.now l.search.width l.reg l.literals;
-  narrow : 0 < l.literal-index → nat_lt l.search.width (hold_width l.search.machine.now l.reg) ≡ false;
+abbrev pub invariant-loop-place : goal.invariant-loop-place
+invariant-loop-place l = record {
+  marks : AreMarked l.look.search.now.machine.now l.look.reg l.look.literals.now l.marks;
+  holding : IsHolding l.look.search.now.machine.now l.look.reg l.look.search.now.width l.trier.claims;
+  left : choice_by l.look.search.now.machine.now l.look.search.now.width l.look.reg (drop l.place l.look.literals.now) ≡ choice_by l.look.search.now.machine.now l.look.search.now.width l.look.reg l.look.literals.now;
 }

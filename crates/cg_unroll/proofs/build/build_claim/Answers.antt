@@ -15,13 +15,14 @@ use Rattle.cg_unroll.specs.declared.tables.Tables.{Tables}
 use Rattle.cg_claim_reach.specs.Asking.{question_of}
 use Rattle.cg_unroll.specs.Building.{Built, MayFail, table_of}
 use Rattle.cg_unroll.specs.inner.Copying.{AreLeavesPlaced, Starts}
+use Rattle.cg_unroll.specs.Holding.{HoldsBefore}
 use Rattle.cg_unroll.specs.Laid.{LaysCopy}
 use Rattle.cg_unroll.specs.inner.States.{Carries, LaysStates, TellsFollows}
-use Rattle.cg_unroll.proofs.Building.{if_err, if_ok}
+use Rattle.cg_unroll.proofs.Building.{if_err, if_ok, on_if}
 use Rattle.cg_unroll.proofs.Kept.{after_table, all_tables, changed_table, four, free_table, others_table, own_table}
 use Rattle.cg_unroll.proofs.Kept.{registers_there, states_table, zero_table}
 use Rattle.cg_unroll.proofs.LeafTables.{leaves_placed}
-use Rattle.cg_unroll.proofs.Stages.{after_fails, before_fails, changed_fails, goal_is, states_fail_whole}
+use Rattle.cg_unroll.proofs.Stages.{after_fails, before_fails, before_stays, changed_fails, goal_is, states_fail_whole}
 use Rattle.cg_unroll.proofs.build.build_claim.Goals as goal
 use Rattle.cg_netlist.proofs.Walks.{within_more}
 use Rattle.cg_claim_reach.proofs.StatesReached.{fits as sides_fit}
@@ -441,6 +442,34 @@ returns-clause-built c =
       keeps = keeps_then aig_ops s s4 c.goal_literal.new.aig k h.keeps;
       valid = h.valid;
     })) c.goal_literal.ensures.built
+
+pub returns-clause-nets : goal.returns-clause-nets
+returns-clause-nets c =
+    let m : MachineData = c.args.machine.now in
+    let q : Question = question_of c.args.asked.now in
+    let reached : Reached = c.args.reached.now in
+    let good : IsMachine m = c.netlist-netlist.ensures.machine in
+    let fits : SidesFit m q.sides = sides_fit m q.sides c.requires.asked.sides in
+    let s : Seen = c.start.new.aig in
+    let start : Tables = c.start.new.self in
+    let starts : Starts m reached.leaves s start = subst (λ l. Starts m l s start) c.as_slice.ensures.parts c.in_ok-start.ensures.started in
+    let unchanged : s ≡ c.args.aig.now = c.start.ensures.unchanged in
+    let own : ℕ → ℕ = λ r. slice_index_or start.before.states r 0 in let free : ℕ → ℕ = λ r. slice_index_or start.free r 0 in
+    let s1 : Seen = c.lay_copy.new.aig in let nets0 : List ℕ = c.lay_copy.new.nets in
+    let lays0 : LaysCopy m reached.before start.before.states s s1 start.before.nets nets0 = c.in_ok-lay_copy.ensures.laid in
+    let nets : ℕ → ℕ = λ x. slice_index_or nets0 x 0 in
+    let s2 : Seen = c.put_states.new.aig in let states1 : List ℕ = c.put_states.new.states in
+    let lays1 : LaysStates m nets own free reached.states s1 s2 start.after.states states1 = subst (λ rs. LaysStates m nets own free rs s1 s2 start.after.states states1) c.as_slice-2.ensures.parts c.in_ok-put_states.ensures.laid in
+    let s3 : Seen = c.lay_copy-2.new.aig in let nets1 : List ℕ = c.lay_copy-2.new.nets in
+    let lays2 : LaysCopy m reached.after states1 s2 s3 start.after.nets nets1 = c.in_ok-lay_copy-2.ensures.laid in
+    let states2 : List ℕ = c.carry_states.new.others in
+    let carries : Carries reached.states states1 start.changed.states states2 = subst (λ rs. Carries rs states1 start.changed.states states2) c.as_slice-3.ensures.parts c.in_ok-carry_states.ensures.carried in
+    let s4 : Seen = c.lay_copy-3.new.aig in let nets2 : List ℕ = c.lay_copy-3.new.nets in
+    let lays3 : LaysCopy m reached.changed states2 s3 s4 start.changed.nets nets2 = c.in_ok-lay_copy-3.ensures.laid in
+    on_if (λ goal. Built s4 c.goal_literal.new.aig goal _) c.goal_literal.result (λ goal h.
+    subst (λ u. HoldsBefore m q u c.goal_literal.new.aig nets0) unchanged
+    (before_stays m good q fits reached c.requires.reached s start starts s1 nets0 lays0 c.goal_literal.new.aig
+    (keeps_then aig_ops s1 s2 c.goal_literal.new.aig lays1.keeps (keeps_then aig_ops s2 s3 c.goal_literal.new.aig lays2.keeps (keeps_then aig_ops s3 s4 c.goal_literal.new.aig lays3.keeps h.keeps))))) c.goal_literal.ensures.built
 
 pub returns-clause-failed : goal.returns-clause-failed
 returns-clause-failed c =

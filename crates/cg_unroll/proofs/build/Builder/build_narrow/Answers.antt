@@ -9,7 +9,7 @@ use Rattle.cg_claim.specs.Leaves.{leaves_of, shown_leaf, width_of}
 use Rattle.cg_claim_reach.specs.Asking.{question_of}
 use Rattle.cg_unroll.proofs.FewLeaves.{few_leaves}
 use Rattle.cg_unroll.proofs.Refusals.{fails_refused}
-use Rattle.cg_unroll.proofs.unroller.Unroller.build_narrow.Goals as goal
+use Rattle.cg_unroll.proofs.build.Builder.build_narrow.Goals as goal
 
 pub overflow_cast-result : goal.overflow_cast-result
 overflow_cast-result c =

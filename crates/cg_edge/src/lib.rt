@@ -17,7 +17,7 @@
 //! - `present`: the present bits, which a tick moves.
 //! - `put`: the data inputs and the registers' bits at their nets.
 //! - `register_step`: which registers rise, and their next bits.
-//! - `settle`: the logic cells, of which those are looked at that have a changed input.
+//! - `settle`: the logic cells, of which those are looked at that have a changed input, or all.
 //! - `latch_step`: the latches of gating cells.
 //! - `moment`: from one moment to the next.
 //! - `simulator`: the simulator.

@@ -8,6 +8,7 @@
 //!
 //! - `clock_nets`: the clock and the outputs of gating cells.
 //! - `runs`: registers that stand one behind the other and have one clock net.
+//! - `wire`: registers that take the bit of one net and show it at one net.
 //! - `narrow`: places in 32 bits.
 //! - `marks`: which logic cells are to be looked at.
 //! - `readers`: which logic cells read a net.
@@ -38,3 +39,4 @@ mod schedule;
 mod settle;
 pub mod simulator;
 mod table;
+mod wire;

@@ -1,6 +1,6 @@
-use Rattle.std.proofs.Common.{◌≡◌, ℕ, length, slice_get, slice_index_or, Some, false, sym, subst, ap, ◌∙◌, arith}
-use Rattle.cg_netlist.specs.Circuit.{RegisterCell, shown_nets}
-use Rattle.cg_netlist.specs.Moment.{bit, shown_bits, values_at}
+use Rattle.std.proofs.Common.{length, slice_index_or, false, sym, subst, ap, ◌∙◌, arith}
+use Rattle.cg_netlist.specs.Circuit.{shown_nets}
+use Rattle.cg_netlist.specs.Moment.{bit, values_at}
 use Rattle.cg_netlist.proofs.Values.{element_at}
 use Rattle.cg_edge.specs.declared.wire.Wire.{Wire}
 use Rattle.cg_edge.specs.inner.Keeping.{SameBut}

@@ -1,8 +1,6 @@
 use Rattle.std.proofs.Common.{◌≡◌, ◌<◌, ℕ, length, slice_get, slice_index_or, slice_set, Some, subst, sym, ap, ◌∙◌, arith}
 use Rattle.std.proofs.lemmas.Option.{slice_get-get_or}
-use Rattle.cg_netlist.specs.Moment.{function_value, values_at}
 use Rattle.cg_netlist.proofs.Values.{element_at}
-use Rattle.cg_edge.specs.inner.Keeping.{IsPut}
 use Rattle.cg_edge.proofs.Facts.{cell_output}
 use Rattle.cg_edge.proofs.Walk.{order_within, walk_at}
 use Rattle.cg_edge.proofs.settle.refresh.Goals as goal

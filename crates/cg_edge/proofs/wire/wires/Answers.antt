@@ -1,4 +1,4 @@
-use Rattle.std.proofs.Common.{sym, ap, ◌∙◌, slice_get}
+use Rattle.std.proofs.Common.{ap, ◌∙◌, slice_get}
 use Rattle.cg_edge.proofs.Wired.{wires_more}
 use Rattle.cg_edge.proofs.wire.wires.Goals as goal
 

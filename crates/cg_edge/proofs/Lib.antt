@@ -17,3 +17,4 @@ pub mod Walk
 pub mod Written
 pub mod Shown
 pub mod Spanned
+pub mod Wired

@@ -105,3 +105,30 @@ module _ (c : Circuit) (good : IsWellFormed c) (readers : List (List ℕ)) where
 
   pub marked_all : (marks nets : List Bool) → CellsHold c.cells nets → AreMarked (walk_of c) marks nets
   marked_all marks nets holds p cell at = let k = (walked c good).of_cells p cell at in inr (holds k.0 cell k.1)
+
+-- the cells at the places below n hold
+abbrev pub AreSwept : List (LogicCell ℕ) → ℕ → List Bool → Type 0
+AreSwept walk n nets = (p : ℕ) (cell : LogicCell ℕ) → p < n → slice_get walk p ≡ Some cell → Holds cell nets
+
+module _ (c : Circuit) (good : IsWellFormed c) where
+  pub swept_more : (i : ℕ) (cell : LogicCell ℕ) (old new : List Bool) → length old ≡ length c.names → slice_get (walk_of c) i ≡ Some cell
+      → new ≡ slice_set old cell.output (function_value cell.function (values_at old cell.inputs)) → AreSwept (walk_of c) i old → AreSwept (walk_of c) (i + 1) new
+  swept_more i cell old new long here is swept q b below at =
+      let v : Bool = function_value cell.function (values_at old cell.inputs) in
+      let k = (walked c good).of_cells i cell here in
+      let own : is_in cell.inputs cell.output ≡ false = ordered_at (walk_of c) i i cell cell (walked c good).ordered (omega arith) here here in
+      let holds_own : Holds cell new = subst (Holds cell) (sym is) (slice_get-set_same old cell.output v (cell_output c good k.0 cell k.1 (length old) long) ∙ ap (λ bits. Some (function_value cell.function bits)) (sym (same_inputs old cell.output v cell.inputs own))) in
+      elim (same_or_not b.output cell.output) [
+        | inl e ↦ subst (λ (x : LogicCell ℕ). Holds x new) (sym (one_cell c good q i b cell at here e)) holds_own
+        | inr differ ↦
+            let apart : q ≢ i = λ e. differ (ap (λ (x : LogicCell ℕ). x.output) (same_Some b cell (sym at ∙ (ap (slice_get (walk_of c)) e ∙ here)))) in
+            let earlier : q < i = omega (arith, apart, below) in
+            let reads : is_in b.inputs cell.output ≡ false = ordered_at (walk_of c) q i b cell (walked c good).ordered (omega (arith, earlier)) at here in
+            subst (Holds b) (sym is) (holds_apart b old cell.output v differ reads (swept q b earlier at))
+      ]
+
+  pub swept_all : (n : ℕ) (nets : List Bool) → length (walk_of c) ≤ n → AreSwept (walk_of c) n nets → CellsHold c.cells nets
+  swept_all n nets all swept k cell at =
+      let p = (walked c good).placed k cell at in
+      let within = slice_get_within (walk_of c) p.0 cell p.1 in
+      swept p.0 cell (omega (arith, within, all)) p.1

@@ -6,3 +6,4 @@ pub mod Kept
 pub mod Runs
 pub mod Spans
 pub mod Stepped
+pub mod Wires

@@ -8,6 +8,7 @@
 //!
 //! - `clock_nets`: the clock and the outputs of gating cells.
 //! - `runs`: registers that stand one behind the other and have one clock net.
+//! - `wire`: registers that take the bit of one net and show it at one net.
 //! - `narrow`: places in 32 bits.
 //! - `marks`: which logic cells are to be looked at.
 //! - `readers`: which logic cells read a net.
@@ -17,7 +18,7 @@
 //! - `present`: the present bits, which a tick moves.
 //! - `put`: the data inputs and the registers' bits at their nets.
 //! - `register_step`: which registers rise, and their next bits.
-//! - `settle`: the logic cells, of which those are looked at that have a changed input.
+//! - `settle`: the logic cells, of which those are looked at that have a changed input, or all.
 //! - `latch_step`: the latches of gating cells.
 //! - `moment`: from one moment to the next.
 //! - `simulator`: the simulator.
@@ -38,3 +39,4 @@ mod schedule;
 mod settle;
 pub mod simulator;
 mod table;
+mod wire;

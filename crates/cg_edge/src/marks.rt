@@ -13,6 +13,9 @@ use std::marker::Model;
 pub(crate) struct Marks {
     words: Vec<u64>,
     count: usize,
+    // How many places were looked at the last time, and the time before. Only a guess rests on them.
+    last: usize,
+    before: usize,
 }
 
 impl Model for Marks {
@@ -35,6 +38,8 @@ impl Marks {
         let mut marks = Marks {
             words: vec![in alloc; 0; count / 64 + 1]?,
             count,
+            last: 0,
+            before: count,
         };
         for place in 0..count {
             marks.add(place);
@@ -56,6 +61,26 @@ impl Marks {
         ensures { self.new ≡ slice_set self.old place false }
     {
         self.words[place / 64] &= !(1u64 << (place % 64));
+    }
+
+    /// Takes all marks away.
+    pub(crate) fn clear(&mut self)
+        ensures { length self.new ≡ length self.old }
+    {
+        self.words.fill(0);
+    }
+
+    /// Keeps in mind how many places were looked at this time.
+    pub(crate) fn keep_in_mind(&mut self, looks: usize)
+        ensures { self.new ≡ self.old }
+    {
+        self.before = self.last;
+        self.last = looks;
+    }
+
+    /// Whether more than a quarter of the places were looked at the time before last, when the clock was as it is now.
+    pub(crate) fn were_many(&self) -> bool {
+        self.before > self.count / 4
     }
 
     /// The first place from this one on that has a mark.

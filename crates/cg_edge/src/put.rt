@@ -29,7 +29,7 @@ pub(crate) fn put(readers: &Readers, net: NetId, bit: bool, nets: &mut [bool], m
 }
 
 /// Puts a bit at a net that no logic cell drives.
-fn put_given(
+pub(crate) fn put_given(
     netlist: &Netlist,
     readers: &Readers,
     net: NetId,

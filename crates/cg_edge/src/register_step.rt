@@ -1,20 +1,17 @@
 //! Which registers rise, and their next bits.
 
-ghost use Rattle.std.specs.Prelude.{◌≡◌, ◌<◌, ◌≤◌, ◌&&◌, List, Bool, false, not, length, map, replicate};
-ghost use Rattle.cg_netlist.specs.Circuit.{register_nets};
-ghost use Rattle.cg_netlist.specs.History.{next_bit, rises};
-ghost use Rattle.cg_netlist.specs.Moment.{bit, register_bits, values_at, zip_with};
-ghost use Rattle.cg_netlist.specs.Netlist.{IsNetlist};
-ghost use Rattle.cg_edge.specs.inner.Keeping.{AreMarked, AreReaders, SameBut, walk_of};
+ghost use Rattle.std.specs.Prelude.{◌≡◌, ◌<◌, ◌≤◌, ◌&&◌, ℕ, List, Bool, false, not, length, map, replicate, slice_get, Some};
+ghost use Rattle.cg_netlist.specs.Circuit.{RegisterCell, register_nets, shown_nets};
+ghost use Rattle.cg_netlist.specs.History.{next_bit, next_value, rises};
+ghost use Rattle.cg_netlist.specs.Moment.{bit, register_bits, shown_bits, values_at, zip_with};
+ghost use Rattle.cg_edge.specs.inner.Keeping.{AreMarked, SameBut, walk_of};
 ghost use Rattle.cg_edge.specs.inner.Kept.{IsSchedule};
 ghost use Rattle.cg_edge.specs.inner.Stepped.{AllRise, AreStepped};
 
 use crate::marks::Marks;
-use crate::put::put_register;
-use crate::readers::Readers;
+use crate::put::{put_given, put_register};
 use crate::schedule::Schedule;
 use cg_net::id::{NetId, RegId};
-use cg_netlist::netlist::Netlist;
 
 /// Moves each register whose clock net rose from the bits of nets `before` to those of `nets`, puts its bit at its output
 /// nets, and tells which rose. No register is looked at whose clock net did not rise.
@@ -41,22 +38,11 @@ pub(crate) fn step(
     ensures marked { AreMarked (walk_of schedule.now.netlist.now) marks.new nets.new }
     ensures long { length marks.new ≡ length marks.old }
 {
-    let netlist = schedule.netlist;
     clear(rose);
     let mut first = 0;
     for run in schedule.runs.as_slice() {
         if rises(run.clock, before, nets) {
-            move_run(
-                netlist,
-                &schedule.readers,
-                first,
-                run.end,
-                before,
-                nets,
-                state,
-                rose,
-                marks,
-            );
+            move_run(schedule, first, run.end, before, nets, state, rose, marks);
         }
         first = run.end;
     }
@@ -84,8 +70,7 @@ fn clear(bits: &mut [bool])
 /// Moves the registers from one number up to another, whose clock net rose, puts their bits at their output nets, and
 /// tells that they rose.
 fn move_run(
-    netlist: &Netlist,
-    readers: &Readers,
+    schedule: &Schedule<'_>,
     first: u32,
     end: u32,
     before: &[bool],
@@ -94,26 +79,61 @@ fn move_run(
     rose: &mut [bool],
     marks: &mut Marks,
 )
-    requires netlist { IsNetlist netlist.now }
+    requires schedule { IsSchedule schedule.now }
     requires order { first ≤ end }
-    requires registers { end ≤ length netlist.now.registers }
-    requires before { length before.now ≡ length netlist.now.names }
-    requires nets { length nets.old ≡ length netlist.now.names }
-    requires state { length state.old ≡ length netlist.now.registers }
-    requires rose { length rose.old ≡ length netlist.now.registers }
-    requires readers { AreReaders (length netlist.now.names) (length marks.old) (walk_of netlist.now) readers.now }
-    requires marked { AreMarked (walk_of netlist.now) marks.old nets.old }
-    requires count { length marks.old ≡ length (walk_of netlist.now) }
-    ensures stepped { (now was : List Bool) → AllRise netlist.now before.now now first end → AreStepped netlist.now before.now now was first nets.old state.old rose.old
-        → AreStepped netlist.now before.now now was end nets.new state.new rose.new }
-    ensures marked { AreMarked (walk_of netlist.now) marks.new nets.new }
+    requires registers { end ≤ length schedule.now.netlist.now.registers }
+    requires before { length before.now ≡ length schedule.now.netlist.now.names }
+    requires nets { length nets.old ≡ length schedule.now.netlist.now.names }
+    requires state { length state.old ≡ length schedule.now.netlist.now.registers }
+    requires rose { length rose.old ≡ length schedule.now.netlist.now.registers }
+    requires marks { length marks.old ≡ length schedule.now.order.now }
+    requires marked { AreMarked (walk_of schedule.now.netlist.now) marks.old nets.old }
+    ensures stepped { (now was : List Bool) → AllRise schedule.now.netlist.now before.now now first end
+        → AreStepped schedule.now.netlist.now before.now now was first nets.old state.old rose.old
+        → AreStepped schedule.now.netlist.now before.now now was end nets.new state.new rose.new }
+    ensures marked { AreMarked (walk_of schedule.now.netlist.now) marks.new nets.new }
     ensures long { length marks.new ≡ length marks.old }
 {
     for k in first..end {
-        let reg = RegId::new(k);
         let place = k as usize;
-        state[place] = netlist.next_value(reg, state[place], before);
+        let bit = move_register(schedule, RegId::new(k), state[place], before, nets, marks);
+        state[place] = bit;
         rose[place] = true;
-        put_register(netlist, readers, reg, state[place], nets, marks);
+    }
+}
+
+/// Moves a register that has this bit and whose clock net rose, and puts its next bit at its output nets. Answers that bit.
+fn move_register(
+    schedule: &Schedule<'_>,
+    id: RegId,
+    own: bool,
+    before: &[bool],
+    nets: &mut [bool],
+    marks: &mut Marks,
+) -> bool
+    requires schedule { IsSchedule schedule.now }
+    requires register { id < length schedule.now.netlist.now.registers }
+    requires before { length before.now ≡ length schedule.now.netlist.now.names }
+    requires nets { length nets.old ≡ length schedule.now.netlist.now.names }
+    requires marks { length marks.old ≡ length schedule.now.order.now }
+    requires marked { AreMarked (walk_of schedule.now.netlist.now) marks.old nets.old }
+    ensures value { (r : RegisterCell ℕ ℕ) → slice_get schedule.now.netlist.now.registers id ≡ Some r → result ≡ next_value r.kind (values_at before.now r.inputs) own }
+    ensures shown { (r : RegisterCell ℕ ℕ) → slice_get schedule.now.netlist.now.registers id ≡ Some r → values_at nets.new (shown_nets r) ≡ shown_bits r result }
+    ensures same { (r : RegisterCell ℕ ℕ) → slice_get schedule.now.netlist.now.registers id ≡ Some r → SameBut (shown_nets r) nets.old nets.new }
+    ensures marked { AreMarked (walk_of schedule.now.netlist.now) marks.new nets.new }
+    ensures long { length marks.new ≡ length marks.old }
+{
+    let readers = &schedule.readers;
+    match schedule.wires[id.number() as usize] {
+        Some(wire) => {
+            let bit = before[wire.input.number() as usize];
+            put_given(schedule.netlist, readers, wire.output, bit, nets, marks);
+            bit
+        },
+        None => {
+            let bit = schedule.netlist.next_value(id, own, before);
+            put_register(schedule.netlist, readers, id, bit, nets, marks);
+            bit
+        },
     }
 }

@@ -10,12 +10,15 @@ use Rattle.cg_edge.specs.declared.schedule.Schedule.{Schedule}
 use Rattle.cg_edge.specs.inner.Flat.{AreLaid}
 use Rattle.cg_edge.specs.inner.Keeping.{AreMarked, AreReaders, IsChain, walk_of}
 use Rattle.cg_edge.specs.inner.Runs.{AreRuns}
+use Rattle.cg_edge.specs.inner.Wires.{AreWires}
 
--- the gating cells stand in a chain, the registers in runs, and the logic cells are laid out in walk order, with their readers
+-- the gating cells stand in a chain, the registers in runs and as wires, and the logic cells are laid out in walk order, with their
+-- readers
 pub record IsSchedule (s : Schedule) : Type 0 where
   pub netlist : IsNetlist s.netlist.now
   pub chained : IsChain s.netlist.now s.chain.items
   pub runs : AreRuns s.netlist.now.registers 0 (length s.netlist.now.registers) s.runs.items
+  pub wires : AreWires s.netlist.now.registers (length s.netlist.now.registers) s.wires.items
   pub ordered : s.order.now ≡ walk_order s.netlist.now.cells
   pub laid : AreLaid s.netlist.now s.order.now (length s.order.now) s.cells
   pub reading : AreReaders (length s.netlist.now.names) (length s.order.now) (walk_of s.netlist.now) s.readers

@@ -5,5 +5,5 @@ use Rattle.cg_edge.proofs.register_step.move_run.Given as goal
 
 abbrev pub invariant-loop-k : goal.invariant-loop-k
 invariant-loop-k l =
-    ((now was : List Bool) → AllRise l.netlist l.before now l.first l.end → AreStepped l.netlist l.before now was l.first l.fn.nets l.fn.state l.fn.rose → AreStepped l.netlist l.before now was l.k l.nets l.state l.rose)
-    × AreMarked (walk_of l.netlist) l.marks l.nets × (length l.marks ≡ length l.fn.marks)
+    ((now was : List Bool) → AllRise l.schedule.netlist.now l.before now l.first l.end → AreStepped l.schedule.netlist.now l.before now was l.first l.fn.nets l.fn.state l.fn.rose → AreStepped l.schedule.netlist.now l.before now was l.k l.nets l.state l.rose)
+    × AreMarked (walk_of l.schedule.netlist.now) l.marks l.nets × (length l.marks ≡ length l.fn.marks)

@@ -7,7 +7,6 @@ use Rattle.cg_edge.specs.inner.Stepped.{AreStepped}
 use Rattle.cg_edge.proofs.Facts.{clock_net_within}
 use Rattle.cg_edge.proofs.InRuns.{run_clocked, run_here, runs_done}
 use Rattle.cg_edge.proofs.Stepped.{run_rises, stepped_none, stepped_past, stepped_rose, stepped_shown, stepped_state}
-use Rattle.cg_edge.proofs.Walk.{walk_long}
 use Rattle.cg_edge.proofs.register_step.step.Goals as goal
 use Rattle.cg_edge.proofs.register_step.step.Goals.{then-rises, else-rises}
 
@@ -52,9 +51,6 @@ move_run-requires-clause-registers c =
     let at : slice_get runs i ≡ Some run = subst (λ l. slice_get l i ≡ Some run) c.as_slice-run-items.ensures.value (slice_get_read c.as_slice-run-items.result.now (length c.as_slice-run-items.result.now) i run refl c.loop-run-test.true c.run-item.is) in
     let here = run_here n.registers c.loop-run.first (length n.registers) i runs run at c.loop-run.invariant.0 in
     here.2
-
-pub move_run-requires-clause-count : goal.move_run-requires-clause-count
-move_run-requires-clause-count c = c.loop-run.invariant.3 ∙ (c.requires.marks ∙ (ap length c.requires.schedule.ordered ∙ sym (walk_long c.args.schedule.now.netlist.now c.requires.schedule.netlist.well_formed)))
 
 pub loop-run-preserved : goal.loop-run-preserved
 loop-run-preserved c =

@@ -1,4 +1,4 @@
-use Rattle.std.proofs.Common.{◌≡◌, ◌++◌, ◌∷◌, [], length, map, refl, ap, ◌∙◌}
+use Rattle.std.proofs.Common.{◌≡◌, ◌++◌, ◌∷◌, [], map, ap, ◌∙◌}
 use Rattle.cg_edge.specs.inner.Spans.{spanned}
 use Rattle.cg_edge.proofs.Spanned.{spans_pushed}
 use Rattle.cg_edge.proofs.readers.Readers.push.Goals as goal

@@ -12,6 +12,7 @@ returns-clause-schedule c =
       netlist = good;
       chained = gater_chain c.args.netlist.now good.well_formed c.in_ok-chain.chain.items c.in_ok-chain.ensures;
       runs = c.in_ok-runs.ensures;
+      wires = c.in_ok-wires.ensures;
       ordered = c.order-order.ensures.order;
       laid = c.in_ok-cells.ensures;
       reading = c.in_ok-readers.ensures;

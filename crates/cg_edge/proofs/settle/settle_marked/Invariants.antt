@@ -1,7 +1,7 @@
 use Rattle.std.proofs.Common.{◌≡◌, ◌-◌, length}
 use Rattle.cg_netlist.specs.Circuit.{cell_nets}
 use Rattle.cg_edge.specs.inner.Keeping.{AreSettled, SameBut, walk_of}
-use Rattle.cg_edge.proofs.settle.settle.Given as goal
+use Rattle.cg_edge.proofs.settle.settle_marked.Given as goal
 
 abbrev pub invariant-marked : goal.invariant-marked
 invariant-marked l =

@@ -9,7 +9,7 @@ use Rattle.cg_edge.specs.inner.Keeping.{IsPut, SameBut, walk_of}
 use Rattle.cg_edge.proofs.Chained.{same_set}
 use Rattle.cg_edge.proofs.Marked.{settled_all, settled_more, settled_past}
 use Rattle.cg_edge.proofs.Walk.{walk_long, walked}
-use Rattle.cg_edge.proofs.settle.settle.Goals as goal
+use Rattle.cg_edge.proofs.settle.settle_marked.Goals as goal
 
 pub look-requires-clause-place : goal.look-requires-clause-place
 look-requires-clause-place c =

@@ -1,7 +1,6 @@
 -- The faults of a reading do not depend on its terms.
-use Rattle.std.proofs.Common.{◌≡◌, ℕ, ◌+◌, Bool, true, false, cond, ◌&&◌, not, ◌||◌, nat_le, nat_lt, ◌==◌, slice_index, List, []}
-use Rattle.std.proofs.Common.{◌∷◌, map, Option, None, Some, Result, Ok, Err, inl, inr, refl, ap, sym, ◌∙◌, subst, arith}
-use Rattle.std.proofs.lemmas.Bool.Decides.{nat_tests}
+use Rattle.std.proofs.Common.{◌≡◌, ℕ, ◌+◌, Bool, true, false, cond, ◌&&◌, not, ◌||◌, nat_lt, slice_index, List, []}
+use Rattle.std.proofs.Common.{◌∷◌, Option, Some, Result, Ok, Err, inl, inr, refl, ap, sym, ◌∙◌, subst}
 use Rattle.std.specs.List.{list_any, position_from}
 use Rattle.std.specs.Str.{bytes_eq}
 use Rattle.cg_limit.specs.Answers.{OrNoMemory}

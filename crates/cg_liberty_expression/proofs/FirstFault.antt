@@ -7,10 +7,10 @@ use Rattle.std.specs.Str.{bytes_eq}
 use Rattle.cg_limit.specs.Answers.{OrNoMemory}
 use Rattle.cg_limit.specs.declared.TheConstants.{MOST_NESTING}
 use Rattle.cg_cell.specs.Expr.{term_of}
-use Rattle.cg_liberty_expression.specs.Faults.{CanGoOn, FailsAt, IsFirstExprFault, NoneBegins, first_place}
+use Rattle.cg_liberty_expression.specs.Faults.{CanGoOn, IsFirstExprFault, NoneBegins, first_place}
 use Rattle.cg_liberty_expression.specs.Grammar.{Level, AtomLevel, PrimeLevel, NotLevel, XorLevel, AndLevel, OrLevel, ParsesAs, word}
 use Rattle.cg_liberty_expression.specs.Grammar.{brackets, unprimed, upright, inverted, one_of, xor, factor, and, neighbours, summand, or}
-use Rattle.cg_liberty_expression.specs.Reading.{Pending, OrLeft, AndLeft, XorLeft, Inversion, Bracket, Ended, Mode, Expects, Has, after}
+use Rattle.cg_liberty_expression.specs.Reading.{Pending, OrLeft, AndLeft, XorLeft, Inversion, Bracket, Mode, Expects, Has}
 use Rattle.cg_liberty_expression.specs.Reading.{and_end, begin, closed, complete, constant, finish, go_on, has_leaf, leaf, nesting, opened}
 use Rattle.cg_liberty_expression.specs.Reading.{or_end, read_on, read_text, step, variable}
 use Rattle.cg_liberty_expression.specs.Tokens.{TokenKind, Token, Word, OrSign, AndSign, XorSign, NotSign, PrimeSign, OpenBracket}
@@ -21,7 +21,7 @@ use Rattle.cg_liberty_expression.specs.declared.fault.ExprFault.{ExprFault}
 use Rattle.cg_liberty_expression.specs.declared.fault.ExprFault.TheVariants.{BadExpr, UnknownPin, TooDeep, NoMemory}
 use Rattle.cg_liberty_expression.proofs.Grammar.{reads_tokens, waits}
 use Rattle.cg_liberty_expression.proofs.Readings.{fault_stays}
-use Rattle.cg_liberty_expression.proofs.Sound.{Has_read, Leads, ModeReads, Waited, after-leads, bracket_open, grown, left_and, left_next}
+use Rattle.cg_liberty_expression.proofs.Sound.{Leads, ModeReads, Waited, after-leads, bracket_open, grown, left_and, left_next}
 use Rattle.cg_liberty_expression.proofs.Sound.{left_or, left_xor, not_open, nothing, regroup, sign}
 
 -- the fault has the place

@@ -35,25 +35,26 @@ pub fn check_expr<N: Names>(alloc: Global, text: &[u8], names: &N) -> Result<(),
     let mut tokens = Tokens::new(text);
     let mut reading = Reading::new(alloc);
     'tokens: while let Some(token) = tokens.next() {
-        reading = checked(alloc, names, reading, token)?;
+        checked(alloc, names, &mut reading, token)?;
     }
     end(alloc, reading, text.len())?;
     Ok(())
 }
 
-/// The reading behind one more token, without what was read.
+/// Reads one more token, and drops what was read.
 #[tactic(auto, using(crate::proofs::Blanked::checks))]
 fn checked<N: Names>(
     alloc: Global,
     names: &N,
-    reading: Reading,
+    reading: &mut Reading,
     token: Token<'_>,
-) -> Result<Reading, ExprFault>
-    ensures { OrNoMemory NoMemory (λ r. blank_mode (mode_of r.operand r.stack)) result
-        (blanked (step (N.names names.now) (mode_of reading.operand reading.stack) (token_of token.entry))) }
+) -> Result<(), ExprFault>
+    ensures { OrNoMemory NoMemory (λ _. blank_mode (mode_of reading.new.operand reading.new.stack)) result
+        (blanked (step (N.names names.now) (mode_of reading.old.operand reading.old.stack) (token_of token.entry))) }
 {
-    let next = after(alloc, &[], reading, known_as_constant(names, token))?;
-    Ok(without_operands(next))
+    after(alloc, &[], reading, known_as_constant(names, token))?;
+    drop_operands(reading);
+    Ok(())
 }
 
 /// The token, or the constant 1 where it is one of the names.
@@ -83,17 +84,12 @@ fn is_name_known<N: Names>(names: &N, word: &[u8]) -> bool
     !is_digit(first) && is_letter(first) && names.knows(word)
 }
 
-/// A reading that stands at the same place, with constants for the operands that were read last.
-fn without_operands(reading: Reading) -> Reading
-    ensures { blank_mode (mode_of result.operand result.stack) ≡ blank_mode (mode_of reading.operand reading.stack) }
+/// Puts constants for the operands that were read last, and leaves the place at which the reading stands.
+fn drop_operands(reading: &mut Reading)
+    ensures { blank_mode (mode_of reading.new.operand reading.new.stack) ≡ blank_mode (mode_of reading.old.operand reading.old.stack) }
 {
-    let Reading { operand, stack } = reading;
-    let operand = match operand {
-        None => None,
-        Some(_) => Some(Expr::Constant(false)),
-    };
-    Reading {
-        operand,
-        stack: stack.without_operand(),
+    if let Some(operand) = &mut reading.operand {
+        *operand = Expr::Constant(false);
     }
+    reading.stack.drop_operand();
 }

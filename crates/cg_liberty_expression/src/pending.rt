@@ -1,11 +1,12 @@
 //! What waits for the operand that comes, while an expression is read.
 
-ghost use Rattle.std.specs.Prelude.{◌≡◌, ◌∷◌, [], ◌<◌, IfOk, true, map, reverse};
+ghost use Rattle.std.specs.Prelude.{◌≡◌, ◌∷◌, [], ◌<◌, IfOk, OnOk, true};
 ghost use Rattle.cg_liberty_expression.specs.Reading.{AndLeft as AndWaits, Bracket as BracketWaits, Inversion as InversionWaits};
-ghost use Rattle.cg_liberty_expression.specs.Reading.{OrLeft as OrWaits, XorLeft as XorWaits, and_end, inv_end, nesting, or_end, xor_end};
+ghost use Rattle.cg_liberty_expression.specs.Reading.{OrLeft as OrWaits, XorLeft as XorWaits, and_end, inv_end, join_and, join_or, join_xor, nesting, or_end, xor_end};
 ghost use Rattle.cg_cell.specs.Expr.{term_of};
+ghost use Rattle.cg_cell.specs.Term.{Both, Differ, Either, Term};
 ghost use Rattle.cg_liberty_expression.specs.inner.Blanked.{blank, blanks};
-ghost use Rattle.cg_liberty_expression.specs.inner.PendingSeen.{ends_in_bracket, ends_in_inversion, is_bottom, pending_of, seen};
+ghost use Rattle.cg_liberty_expression.specs.inner.PendingSeen.{ends_in_bracket, ends_in_inversion, is_bottom, joined, pending_of};
 
 use crate::join::{both, either, inverse, one_of};
 use cg_cell::expr::Expr;
@@ -62,16 +63,16 @@ impl Model for Stack {
 }
 
 impl Pending {
-    /// The same with a constant for its operand, where it has one.
-    fn without_operand(self) -> Pending
-        ensures { blank (pending_of result) ≡ blank (pending_of self) }
+    /// Puts a constant for its operand, where it has one.
+    fn drop_operand(&mut self)
+        ensures { pending_of self.new ≡ blank (pending_of self.old) }
     {
         match self {
-            Pending::OrLeft(_) => Pending::OrLeft(Expr::Constant(false)),
-            Pending::AndLeft(_) => Pending::AndLeft(Expr::Constant(false)),
-            Pending::XorLeft(_) => Pending::XorLeft(Expr::Constant(false)),
-            Pending::Inversion => Pending::Inversion,
-            Pending::Bracket => Pending::Bracket,
+            Pending::OrLeft(left) => *left = Expr::Constant(false),
+            Pending::AndLeft(left) => *left = Expr::Constant(false),
+            Pending::XorLeft(left) => *left = Expr::Constant(false),
+            Pending::Inversion => {}
+            Pending::Bracket => {}
         }
     }
 }
@@ -116,195 +117,176 @@ impl Stack {
         matches!(self.top, Some(Pending::Bracket))
     }
 
-    /// The same with a constant for the operand that waits last, where that waits for another.
-    pub fn without_operand(self) -> Stack
-        ensures { blanks result ≡ blanks self }
+    /// Puts a constant for the operand that waits last, where that waits for another.
+    pub fn drop_operand(&mut self)
+        ensures { blanks self.new ≡ blanks self.old }
     {
-        let Stack { top, below, depth } = self;
-        let top = match top {
-            Some(last) => Some(last.without_operand()),
-            None => None,
-        };
-        Stack { top, below, depth }
+        if let Some(last) = &mut self.top {
+            last.drop_operand();
+        }
     }
 
-    /// The same with one more that waits last, where so many brackets and signs `!` are open.
-    fn followed_by(self, last: Pending, depth: usize) -> Result<Stack, AllocError>
-        requires { depth ≡ nesting (pending_of last ∷ self) }
-        ensures { IfOk result (λ s. s ≡ pending_of last ∷ self) }
+    /// One more waits last, where so many brackets and signs `!` are then open.
+    fn wait(&mut self, last: Pending, depth: usize) -> Result<(), AllocError>
+        requires { depth ≡ nesting (pending_of last ∷ self.old) }
+        ensures { OnOk result (self.new ≡ pending_of last ∷ self.old) }
     {
-        let below = sunk(self.top, self.below)?;
-        Ok(Stack {
-            top: Some(last),
-            below,
-            depth,
-        })
+        // First the room, so that nothing has changed where there is none.
+        self.below.reserve(1)?;
+        if let Some(before) = self.top.replace(last) {
+            self.below.push_reserved(before);
+        }
+        self.depth = depth;
+        Ok(())
     }
 
     /// A left operand of an or waits.
-    pub fn wait_or(self, left: Expr) -> Result<Stack, AllocError>
-        ensures { IfOk result (λ s. s ≡ OrWaits (term_of left) ∷ self) }
+    pub fn wait_or(&mut self, left: Expr) -> Result<(), AllocError>
+        ensures { OnOk result (self.new ≡ OrWaits (term_of left) ∷ self.old) }
     {
         let depth = self.depth;
-        self.followed_by(Pending::OrLeft(left), depth)
+        self.wait(Pending::OrLeft(left), depth)
     }
 
     /// A left operand of an and waits.
-    pub fn wait_and(self, left: Expr) -> Result<Stack, AllocError>
-        ensures { IfOk result (λ s. s ≡ AndWaits (term_of left) ∷ self) }
+    pub fn wait_and(&mut self, left: Expr) -> Result<(), AllocError>
+        ensures { OnOk result (self.new ≡ AndWaits (term_of left) ∷ self.old) }
     {
         let depth = self.depth;
-        self.followed_by(Pending::AndLeft(left), depth)
+        self.wait(Pending::AndLeft(left), depth)
     }
 
     /// A left operand of an exclusive or waits.
-    pub fn wait_xor(self, left: Expr) -> Result<Stack, AllocError>
-        ensures { IfOk result (λ s. s ≡ XorWaits (term_of left) ∷ self) }
+    pub fn wait_xor(&mut self, left: Expr) -> Result<(), AllocError>
+        ensures { OnOk result (self.new ≡ XorWaits (term_of left) ∷ self.old) }
     {
         let depth = self.depth;
-        self.followed_by(Pending::XorLeft(left), depth)
+        self.wait(Pending::XorLeft(left), depth)
     }
 
     /// A sign `!` opens.
-    pub fn open_inversion(self) -> Result<Stack, AllocError>
-        requires { nesting self < MOST_NESTING }
-        ensures { IfOk result (λ s. s ≡ InversionWaits ∷ self) }
+    pub fn open_inversion(&mut self) -> Result<(), AllocError>
+        requires { nesting self.old < MOST_NESTING }
+        ensures { OnOk result (self.new ≡ InversionWaits ∷ self.old) }
     {
         let depth = self.depth + 1;
-        self.followed_by(Pending::Inversion, depth)
+        self.wait(Pending::Inversion, depth)
     }
 
     /// A bracket opens.
-    pub fn open_bracket(self) -> Result<Stack, AllocError>
-        requires { nesting self < MOST_NESTING }
-        ensures { IfOk result (λ s. s ≡ BracketWaits ∷ self) }
+    pub fn open_bracket(&mut self) -> Result<(), AllocError>
+        requires { nesting self.old < MOST_NESTING }
+        ensures { OnOk result (self.new ≡ BracketWaits ∷ self.old) }
     {
         let depth = self.depth + 1;
-        self.followed_by(Pending::Bracket, depth)
+        self.wait(Pending::Bracket, depth)
     }
 
     /// The bracket that waits last closes.
-    pub fn close_bracket(self) -> Stack
-        requires { ends_in_bracket self ≡ true }
-        ensures { self ≡ BracketWaits ∷ result }
+    pub fn close_bracket(&mut self)
+        requires { ends_in_bracket self.old ≡ true }
+        ensures { self.old ≡ BracketWaits ∷ self.new }
     {
-        let Stack { top, below, depth } = self;
-        // By a call, as its parts would else be dropped one by one in the proof.
-        drop(top);
-        raised(below, depth - 1)
+        self.top = self.below.pop();
+        self.depth -= 1;
     }
 
     /// The sign `!` that waits last has its operand.
-    fn end_inversion(self) -> Stack
-        requires { ends_in_inversion self ≡ true }
-        ensures { self ≡ InversionWaits ∷ result }
+    fn end_inversion(&mut self)
+        requires { ends_in_inversion self.old ≡ true }
+        ensures { self.old ≡ InversionWaits ∷ self.new }
     {
-        let Stack { top, below, depth } = self;
-        drop(top);
-        raised(below, depth - 1)
+        self.top = self.below.pop();
+        self.depth -= 1;
     }
-}
 
-/// What waits, with the last put behind what is below it.
-fn sunk(top: Option<Pending>, below: Vec<Pending>) -> Result<Vec<Pending>, AllocError>
-    ensures { IfOk result (λ v. reverse (map pending_of v.items) ≡ seen top below.items) }
-{
-    let mut below = below;
-    if let Some(last) = top {
-        below.push(last)?;
+    /// The left operand of an exclusive or, where one waits last; it waits no more.
+    fn end_xor(&mut self) -> Option<Expr>
+        ensures { (right : Term) → join_xor (record { term = right; pending = self.old }) ≡ record { term = joined Differ result right; pending = self.new } }
+    {
+        if !matches!(self.top, Some(Pending::XorLeft(_))) {
+            return None;
+        }
+        let last = self.top.take();
+        self.top = self.below.pop();
+        match last {
+            Some(Pending::XorLeft(left)) => Some(left),
+            _ => None,
+        }
     }
-    Ok(below)
-}
 
-/// What waits below, with its last on top.
-fn raised(below: Vec<Pending>, depth: usize) -> Stack
-    requires { depth ≡ nesting (reverse (map pending_of below.items)) }
-    ensures { result ≡ reverse (map pending_of below.items) }
-{
-    let mut below = below;
-    let top = below.pop();
-    Stack { top, below, depth }
-}
+    /// The left operand of an and, where one waits last; it waits no more.
+    fn end_and(&mut self) -> Option<Expr>
+        ensures { (right : Term) → join_and (record { term = right; pending = self.old }) ≡ record { term = joined Both result right; pending = self.new } }
+    {
+        if !matches!(self.top, Some(Pending::AndLeft(_))) {
+            return None;
+        }
+        let last = self.top.take();
+        self.top = self.below.pop();
+        match last {
+            Some(Pending::AndLeft(left)) => Some(left),
+            _ => None,
+        }
+    }
 
-/// A level that has ended, and what waits behind it.
-#[derive(Drop)]
-pub struct Ended {
-    pub operand: Expr,
-    pub stack: Stack,
+    /// The left operand of an or, where one waits last; it waits no more.
+    fn end_or(&mut self) -> Option<Expr>
+        ensures { (right : Term) → join_or (record { term = right; pending = self.old }) ≡ record { term = joined Either result right; pending = self.new } }
+    {
+        if !matches!(self.top, Some(Pending::OrLeft(_))) {
+            return None;
+        }
+        let last = self.top.take();
+        self.top = self.below.pop();
+        match last {
+            Some(Pending::OrLeft(left)) => Some(left),
+            _ => None,
+        }
+    }
 }
 
 /// An inv-level ends: each sign `!` before it takes it.
-fn end_inversions(alloc: Global, operand: Expr, stack: Stack) -> Result<Ended, AllocError>
-    ensures { IfOk result (λ e. inv_end (term_of operand) stack ≡ record { term = term_of e.operand; pending = e.stack }) }
+fn end_inversions(alloc: Global, operand: Expr, stack: &mut Stack) -> Result<Expr, AllocError>
+    ensures { IfOk result (λ e. inv_end (term_of operand) stack.old ≡ record { term = term_of e; pending = stack.new }) }
 {
     let mut operand = operand;
-    let mut stack = stack;
     'inversions: while stack.ends_in_inversion() {
-        stack = stack.end_inversion();
+        stack.end_inversion();
         operand = inverse(alloc, operand)?;
     }
-    Ok(Ended { operand, stack })
+    Ok(operand)
 }
 
 /// An xor-level ends: an exclusive or that waits takes it as its right operand.
-pub fn end_xor(alloc: Global, operand: Expr, stack: Stack) -> Result<Ended, AllocError>
-    ensures { IfOk result (λ e. xor_end (term_of operand) stack ≡ record { term = term_of e.operand; pending = e.stack }) }
+pub fn end_xor(alloc: Global, operand: Expr, stack: &mut Stack) -> Result<Expr, AllocError>
+    ensures { IfOk result (λ e. xor_end (term_of operand) stack.old ≡ record { term = term_of e; pending = stack.new }) }
 {
-    let Ended { operand, stack } = end_inversions(alloc, operand, stack)?;
-    let Stack { top, below, depth } = stack;
-    match top {
-        Some(Pending::XorLeft(left)) => {
-            let operand = one_of(alloc, left, operand)?;
-            Ok(Ended {
-                operand,
-                stack: raised(below, depth),
-            })
-        }
-        top => Ok(Ended {
-            operand,
-            stack: Stack { top, below, depth },
-        }),
+    let operand = end_inversions(alloc, operand, stack)?;
+    match stack.end_xor() {
+        None => Ok(operand),
+        Some(left) => one_of(alloc, left, operand),
     }
 }
 
 /// An and-level ends: an and that waits takes it as its right operand.
-pub fn end_and(alloc: Global, operand: Expr, stack: Stack) -> Result<Ended, AllocError>
-    ensures { IfOk result (λ e. and_end (term_of operand) stack ≡ record { term = term_of e.operand; pending = e.stack }) }
+pub fn end_and(alloc: Global, operand: Expr, stack: &mut Stack) -> Result<Expr, AllocError>
+    ensures { IfOk result (λ e. and_end (term_of operand) stack.old ≡ record { term = term_of e; pending = stack.new }) }
 {
-    let Ended { operand, stack } = end_xor(alloc, operand, stack)?;
-    let Stack { top, below, depth } = stack;
-    match top {
-        Some(Pending::AndLeft(left)) => {
-            let operand = both(alloc, left, operand)?;
-            Ok(Ended {
-                operand,
-                stack: raised(below, depth),
-            })
-        }
-        top => Ok(Ended {
-            operand,
-            stack: Stack { top, below, depth },
-        }),
+    let operand = end_xor(alloc, operand, stack)?;
+    match stack.end_and() {
+        None => Ok(operand),
+        Some(left) => both(alloc, left, operand),
     }
 }
 
 /// An or-level ends: an or that waits takes it as its right operand.
-pub fn end_or(alloc: Global, operand: Expr, stack: Stack) -> Result<Ended, AllocError>
-    ensures { IfOk result (λ e. or_end (term_of operand) stack ≡ record { term = term_of e.operand; pending = e.stack }) }
+pub fn end_or(alloc: Global, operand: Expr, stack: &mut Stack) -> Result<Expr, AllocError>
+    ensures { IfOk result (λ e. or_end (term_of operand) stack.old ≡ record { term = term_of e; pending = stack.new }) }
 {
-    let Ended { operand, stack } = end_and(alloc, operand, stack)?;
-    let Stack { top, below, depth } = stack;
-    match top {
-        Some(Pending::OrLeft(left)) => {
-            let operand = either(alloc, left, operand)?;
-            Ok(Ended {
-                operand,
-                stack: raised(below, depth),
-            })
-        }
-        top => Ok(Ended {
-            operand,
-            stack: Stack { top, below, depth },
-        }),
+    let operand = end_and(alloc, operand, stack)?;
+    match stack.end_or() {
+        None => Ok(operand),
+        Some(left) => either(alloc, left, operand),
     }
 }

@@ -1,15 +1,15 @@
 //! Reading the text of an expression, token by token.
 
-ghost use Rattle.std.specs.Prelude.{◌≡◌, ◌∷◌, [], ◌<◌, ◌^◌, IfErr, IfOk, IsTrue, length, slice_index};
+ghost use Rattle.std.specs.Prelude.{◌≡◌, ◌∷◌, [], ◌<◌, ◌^◌, IfErr, IfOk, OnOk, IsTrue, length, slice_index};
 ghost use Rattle.std.specs.List.{position_from};
 ghost use Rattle.std.specs.Str.{bytes_eq};
 ghost use Rattle.cg_cell.specs.Expr.{is_over, term_of};
-ghost use Rattle.cg_cell.specs.Term.{Inverse, Term, is_within};
+ghost use Rattle.cg_cell.specs.Term.{Term, is_within};
 ghost use Rattle.cg_limit.specs.Answers.{OrNoMemory};
 ghost use Rattle.cg_liberty_expression.specs.declared.fault.ExprFault.TheVariants.{NoMemory};
 ghost use Rattle.cg_liberty_expression.specs.Faults.{IsFirstExprFault};
 ghost use Rattle.cg_liberty_expression.specs.Grammar.{ExprText};
-ghost use Rattle.cg_liberty_expression.specs.Reading.{AndLeft, OrLeft, XorLeft, Has, and_end, xor_end};
+ghost use Rattle.cg_liberty_expression.specs.Reading.{AndLeft, OrLeft, XorLeft, and_end, xor_end};
 ghost use Rattle.cg_liberty_expression.specs.Reading.{begin, Expects, closed, constant, finish, go_on, complete, leaf};
 ghost use Rattle.cg_liberty_expression.specs.Reading.{opened, or_end, read_text, step, Bracket, Inversion};
 ghost use Rattle.cg_liberty_expression.specs.inner.TokensSeen.{token_of};
@@ -17,7 +17,7 @@ ghost use Rattle.cg_liberty_expression.specs.Reads.{mode_of};
 
 use crate::fault::ExprFault;
 use crate::join::inverse;
-use crate::pending::{Ended, Stack, end_and, end_or, end_xor};
+use crate::pending::{Stack, end_and, end_or, end_xor};
 use crate::tokens::{Token, TokenKind, Tokens, is_digit, is_letter};
 use cg_cell::expr::Expr;
 use cg_cell::name::Name;
@@ -76,81 +76,63 @@ fn read(alloc: Global, text: &[u8], pins: &[Name]) -> Result<Expr, ExprFault>
     let mut tokens = Tokens::new(text);
     let mut reading = Reading::new(alloc);
     'tokens: while let Some(token) = tokens.next() {
-        reading = after(alloc, pins, reading, token)?;
+        after(alloc, pins, &mut reading, token)?;
     }
     end(alloc, reading, text.len())
 }
 
-/// The reading behind one more token.
+/// Reads one more token.
 pub fn after(
     alloc: Global,
     pins: &[Name],
-    reading: Reading,
+    reading: &mut Reading,
     token: Token<'_>,
-) -> Result<Reading, ExprFault>
+) -> Result<(), ExprFault>
     requires { length pins.now < 2 ^ 32 }
-    ensures { OrNoMemory NoMemory (λ r. mode_of r.operand r.stack) result (step pins.now (mode_of reading.operand reading.stack) (token_of token.entry)) }
+    ensures { OrNoMemory NoMemory (λ _. mode_of reading.new.operand reading.new.stack) result
+        (step pins.now (mode_of reading.old.operand reading.old.stack) (token_of token.entry)) }
 {
-    let Reading { operand, stack } = reading;
-    match operand {
-        None => first(pins, stack, token),
-        Some(operand) => further(alloc, pins, operand, stack, token),
-    }
+    let operand = match reading.operand.take() {
+        None => first(pins, &mut reading.stack, token)?,
+        Some(operand) => further(alloc, pins, operand, &mut reading.stack, token)?,
+    };
+    reading.operand = operand;
+    Ok(())
 }
 
-/// The reading where an operand must come.
-fn expecting(stack: Stack) -> Reading
-    ensures { mode_of result.operand result.stack ≡ Expects stack }
-{
-    Reading {
-        operand: None,
-        stack,
-    }
-}
-
-/// A token where an operand begins.
-fn first(pins: &[Name], stack: Stack, token: Token<'_>) -> Result<Reading, ExprFault>
+/// A token where an operand begins. It answers the operand that may be complete then, where there is one.
+fn first(pins: &[Name], stack: &mut Stack, token: Token<'_>) -> Result<Option<Expr>, ExprFault>
     requires { length pins.now < 2 ^ 32 }
-    ensures { OrNoMemory NoMemory (λ r. mode_of r.operand r.stack) result (begin pins.now stack (token_of token.entry)) }
+    ensures { OrNoMemory NoMemory (λ operand. mode_of operand stack.new) result (begin pins.now stack.old (token_of token.entry)) }
 {
     match token.kind {
-        TokenKind::Word(word) => {
-            let leaf = word_leaf(pins, token.at, word)?;
-            Ok(Reading {
-                operand: Some(leaf),
-                stack,
-            })
-        }
+        TokenKind::Word(word) => Ok(Some(word_leaf(pins, token.at, word)?)),
         TokenKind::Not => inversion(stack, token.at),
         TokenKind::Open => bracket(stack, token.at),
-        _ => {
-            // By a call, here and below, as its parts would else be dropped one by one in the proof.
-            drop(stack);
-            Err(ExprFault::BadExpr(token.at as u64))
-        }
+        _ => Err(ExprFault::BadExpr(token.at as u64)),
     }
 }
 
-/// A sign `!` opens.
-fn inversion(stack: Stack, at: usize) -> Result<Reading, ExprFault>
-    ensures { OrNoMemory NoMemory (λ r. mode_of r.operand r.stack) result (opened at Inversion stack) }
+/// A sign `!` opens, and an operand must come.
+fn inversion(stack: &mut Stack, at: usize) -> Result<Option<Expr>, ExprFault>
+    ensures { OrNoMemory NoMemory (λ operand. mode_of operand stack.new) result (opened at Inversion stack.old) }
 {
     if stack.nesting() >= MOST_NESTING {
-        drop(stack);
         return Err(ExprFault::TooDeep(at as u64));
     }
-    Ok(expecting(stack.open_inversion()?))
+    stack.open_inversion()?;
+    Ok(None)
 }
 
-/// A bracket opens.
-fn bracket(stack: Stack, at: usize) -> Result<Reading, ExprFault>
-    ensures { OrNoMemory NoMemory (λ r. mode_of r.operand r.stack) result (opened at Bracket stack) }
+/// A bracket opens, and an operand must come.
+fn bracket(stack: &mut Stack, at: usize) -> Result<Option<Expr>, ExprFault>
+    ensures { OrNoMemory NoMemory (λ operand. mode_of operand stack.new) result (opened at Bracket stack.old) }
 {
     if stack.nesting() >= MOST_NESTING {
-        drop(stack);
         return Err(ExprFault::TooDeep(at as u64));
     }
-    Ok(expecting(stack.open_bracket()?))
+    stack.open_bracket()?;
+    Ok(None)
 }
 
 /// The constant or the pin that a word is.
@@ -215,81 +197,84 @@ fn is_named(pin: &Name, name: &[u8]) -> bool
     name == pin.bytes()
 }
 
-/// A token behind an operand.
+/// A token behind an operand. It answers the operand that may be complete then, where there is one.
 fn further(
     alloc: Global,
     pins: &[Name],
     operand: Expr,
-    stack: Stack,
+    stack: &mut Stack,
     token: Token<'_>,
-) -> Result<Reading, ExprFault>
+) -> Result<Option<Expr>, ExprFault>
     requires { length pins.now < 2 ^ 32 }
-    ensures { OrNoMemory NoMemory (λ r. mode_of r.operand r.stack) result (go_on pins.now (term_of operand) stack (token_of token.entry)) }
+    ensures { OrNoMemory NoMemory (λ operand. mode_of operand stack.new) result (go_on pins.now (term_of operand) stack.old (token_of token.entry)) }
 {
     match token.kind {
-        TokenKind::Prime => Ok(primed(alloc, operand, stack)?),
-        TokenKind::Xor => Ok(expecting(left_of_xor(alloc, operand, stack)?)),
-        TokenKind::And => Ok(expecting(left_of_and(alloc, operand, stack)?)),
-        TokenKind::Or => Ok(expecting(left_of_or(alloc, operand, stack)?)),
+        TokenKind::Prime => Ok(Some(inverse(alloc, operand)?)),
         TokenKind::Close => close(alloc, operand, stack, token.at),
         TokenKind::Other => {
+            // By a call, as its parts would else be dropped one by one in the proof.
             drop(operand);
-            drop(stack);
             Err(ExprFault::BadExpr(token.at as u64))
         }
-        _ => first(pins, left_of_and(alloc, operand, stack)?, token),
+        TokenKind::Xor => {
+            left_of_xor(alloc, operand, stack)?;
+            Ok(None)
+        }
+        TokenKind::And => {
+            left_of_and(alloc, operand, stack)?;
+            Ok(None)
+        }
+        TokenKind::Or => {
+            left_of_or(alloc, operand, stack)?;
+            Ok(None)
+        }
+        _ => {
+            left_of_and(alloc, operand, stack)?;
+            first(pins, stack, token)
+        }
     }
 }
 
-/// A sign `'` inverts the operand before it.
-fn primed(alloc: Global, operand: Expr, stack: Stack) -> Result<Reading, AllocError>
-    ensures { IfOk result (λ r. mode_of r.operand r.stack ≡ Has (Inverse (term_of operand)) stack) }
+/// What ends with this operand waits as the left operand of an exclusive or.
+fn left_of_xor(alloc: Global, operand: Expr, stack: &mut Stack) -> Result<(), AllocError>
+    ensures { OnOk result (stack.new ≡ XorLeft (xor_end (term_of operand) stack.old).term ∷ (xor_end (term_of operand) stack.old).pending) }
 {
-    let operand = inverse(alloc, operand)?;
-    Ok(Reading {
-        operand: Some(operand),
-        stack,
-    })
-}
-
-/// What waits behind an exclusive or whose left operand ends with this one.
-fn left_of_xor(alloc: Global, operand: Expr, stack: Stack) -> Result<Stack, AllocError>
-    ensures { IfOk result (λ s. s ≡ XorLeft (xor_end (term_of operand) stack).term ∷ (xor_end (term_of operand) stack).pending) }
-{
-    let Ended { operand, stack } = end_xor(alloc, operand, stack)?;
+    let operand = end_xor(alloc, operand, stack)?;
     stack.wait_xor(operand)
 }
 
-/// What waits behind an and whose left operand ends with this one.
-fn left_of_and(alloc: Global, operand: Expr, stack: Stack) -> Result<Stack, AllocError>
-    ensures { IfOk result (λ s. s ≡ AndLeft (and_end (term_of operand) stack).term ∷ (and_end (term_of operand) stack).pending) }
+/// What ends with this operand waits as the left operand of an and.
+fn left_of_and(alloc: Global, operand: Expr, stack: &mut Stack) -> Result<(), AllocError>
+    ensures { OnOk result (stack.new ≡ AndLeft (and_end (term_of operand) stack.old).term ∷ (and_end (term_of operand) stack.old).pending) }
 {
-    let Ended { operand, stack } = end_and(alloc, operand, stack)?;
+    let operand = end_and(alloc, operand, stack)?;
     stack.wait_and(operand)
 }
 
-/// What waits behind an or whose left operand ends with this one.
-fn left_of_or(alloc: Global, operand: Expr, stack: Stack) -> Result<Stack, AllocError>
-    ensures { IfOk result (λ s. s ≡ OrLeft (or_end (term_of operand) stack).term ∷ (or_end (term_of operand) stack).pending) }
+/// What ends with this operand waits as the left operand of an or.
+fn left_of_or(alloc: Global, operand: Expr, stack: &mut Stack) -> Result<(), AllocError>
+    ensures { OnOk result (stack.new ≡ OrLeft (or_end (term_of operand) stack.old).term ∷ (or_end (term_of operand) stack.old).pending) }
 {
-    let Ended { operand, stack } = end_or(alloc, operand, stack)?;
+    let operand = end_or(alloc, operand, stack)?;
     stack.wait_or(operand)
 }
 
-/// A bracket closes, where one is open.
-fn close(alloc: Global, operand: Expr, stack: Stack, at: usize) -> Result<Reading, ExprFault>
-    ensures { OrNoMemory NoMemory (λ r. mode_of r.operand r.stack) result (closed at (or_end (term_of operand) stack)) }
+/// A bracket closes, where one is open. It answers what stands in it.
+fn close(
+    alloc: Global,
+    operand: Expr,
+    stack: &mut Stack,
+    at: usize,
+) -> Result<Option<Expr>, ExprFault>
+    ensures { OrNoMemory NoMemory (λ operand. mode_of operand stack.new) result (closed at (or_end (term_of operand) stack.old)) }
 {
-    let ended = end_or(alloc, operand, stack)?;
-    if !ended.stack.ends_in_bracket() {
-        drop(ended);
+    let operand = end_or(alloc, operand, stack)?;
+    if !stack.ends_in_bracket() {
+        drop(operand);
         return Err(ExprFault::BadExpr(at as u64));
     }
-    let Ended { operand, stack } = ended;
-    Ok(Reading {
-        operand: Some(operand),
-        stack: stack.close_bracket(),
-    })
+    stack.close_bracket();
+    Ok(Some(operand))
 }
 
 /// The end of the text, which has that many bytes.
@@ -310,12 +295,11 @@ pub fn end(alloc: Global, reading: Reading, length: usize) -> Result<Expr, ExprF
 fn complete(alloc: Global, operand: Expr, stack: Stack, length: usize) -> Result<Expr, ExprFault>
     ensures { OrNoMemory NoMemory term_of result (complete length (or_end (term_of operand) stack)) }
 {
-    let ended = end_or(alloc, operand, stack)?;
-    if !ended.stack.is_empty() {
-        drop(ended);
+    let mut stack = stack;
+    let operand = end_or(alloc, operand, &mut stack)?;
+    if !stack.is_empty() {
+        drop(operand);
         return Err(ExprFault::BadExpr(length as u64));
     }
-    let Ended { operand, stack } = ended;
-    drop(stack);
     Ok(operand)
 }

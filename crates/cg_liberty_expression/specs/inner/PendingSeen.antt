@@ -1,7 +1,9 @@
 -- What waits in the program, as the definition has it.
-use Rattle.std.specs.Prelude.{◌≡◌, ℕ, List, [], ◌∷◌, ◌++◌, Bool, true, false, map, reverse, Option, None}
+use Rattle.std.specs.Prelude.{◌≡◌, ℕ, List, [], ◌∷◌, ◌++◌, Bool, true, false, map, reverse, Option, None, Some}
 use Rattle.std.specs.Option.{option_map, option_to_list}
 use Rattle.cg_cell.specs.Expr.{term_of}
+use Rattle.cg_cell.specs.Term.{Term}
+use Rattle.cg_cell.specs.declared.expr.Expr.{Expr}
 use Rattle.cg_liberty_expression.specs.Reading as reading
 use Rattle.cg_liberty_expression.specs.declared.pending.Pending.{Pending}
 use Rattle.cg_liberty_expression.specs.declared.pending.Pending.TheVariants.{OrLeft, AndLeft, XorLeft, Inversion, Bracket}
@@ -29,6 +31,11 @@ ends_in_inversion _ = false
 abbrev pub ends_in_bracket : List reading.Pending → Bool
 ends_in_bracket (reading.Bracket ∷ pending) = true
 ends_in_bracket _ = false
+
+-- a term behind the left operand of an operator, where there is one
+abbrev pub joined : (Term → Term → Term) → Option Expr → Term → Term
+joined operator None right = right
+joined operator (Some left) right = operator (term_of left) right
 
 -- what is true of what waits
 pub record IsStack (top : Option Pending) (below : List Pending) (depth : ℕ) : Type 0 where

@@ -1,4 +1,5 @@
 pub mod Columns
+pub mod CutRows
 pub mod InputsNamed
 pub mod NamesAdded
 pub mod ReadingOn

@@ -5,3 +5,4 @@ pub mod Reading
 pub mod StimText
 pub mod Pushing
 pub mod Played
+pub mod inner

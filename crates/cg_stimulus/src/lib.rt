@@ -4,10 +4,11 @@
 //! data input; or the text's first fault. In `specs/` stand the definitions of the text, of what is read, and of the
 //! history of a netlist on which rows are played.
 //!
-//! Modules, as data flows: [`header`] (the first line), [`row`] (a row's bits), [`read`] (the whole text), [`stimulus`] (rows,
-//! read or pushed one by one), [`played`] (the history on which they are played), [`fault`] (why a text is refused).
+//! Modules, as data flows: [`header`] (the first line), [`row`] (a row's bits), [`read`] (the whole text), [`bit_rows`] (rows in one list),
+//! [`stimulus`] (rows, read or pushed one by one), [`played`] (the history on which they are played), [`fault`] (why a text is refused).
 #![tactic(auto)]
 
+mod bit_rows;
 pub mod fault;
 mod header;
 pub mod played;

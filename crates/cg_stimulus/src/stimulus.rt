@@ -7,9 +7,9 @@ ghost use Rattle.cg_net.specs.Names.{net_name};
 ghost use Rattle.cg_stimulus.specs.Inputs.{IsStimulus, input_names};
 ghost use Rattle.cg_stimulus.specs.Pushing.{PushRefuses};
 
+use crate::bit_rows::BitRows;
 use crate::fault::StimulusFault;
 use cg_limit::{Limit, MOST_ROWS};
-use cg_list::Seq;
 use cg_net::id::NetId;
 use cg_net::names::NetNames;
 use cg_netlist::netlist::Netlist;
@@ -22,7 +22,7 @@ use std::marker::Model;
 #[derive(Drop)]
 pub struct Stimulus {
     inputs: NetNames,
-    rows: Seq<Seq<bool>>,
+    rows: BitRows,
 }
 
 impl Model for Stimulus {
@@ -43,14 +43,14 @@ impl Stimulus {
     {
         Ok(Stimulus {
             inputs: names_of(alloc, netlist)?,
-            rows: Seq::new(alloc),
+            rows: BitRows::new(alloc),
         })
     }
 
     /// Puts a row behind the others, which must have a bit for each data input.
     ///
     /// A stimulus has at most [`MOST_ROWS`] rows. A refusal leaves it as it was.
-    pub fn push(&mut self, alloc: Global, bits: &[bool]) -> Result<(), StimulusFault>
+    pub fn push(&mut self, _alloc: Global, bits: &[bool]) -> Result<(), StimulusFault>
         requires wide { length bits.now ≡ length self.old.inputs }
         ensures inputs { self.new.inputs ≡ self.old.inputs }
         ensures rows { OnOk result (self.new.rows ≡ self.old.rows ++ bits.now ∷ []) }
@@ -58,11 +58,10 @@ impl Stimulus {
         ensures refused { OnErr result (self.new.rows ≡ self.old.rows) }
         ensures cause { IfErr result (λ fault. PushRefuses self.old fault) }
     {
-        if self.rows.len() >= MOST_ROWS {
+        if self.rows.len() as usize >= MOST_ROWS {
             return Err(StimulusFault::Limit(Limit::Rows));
         }
-        let row = Vec::from_slice(alloc, bits)?;
-        self.rows.push(Seq::from_vec(row))?;
+        self.rows.push(bits)?;
         Ok(())
     }
 
@@ -71,7 +70,7 @@ impl Stimulus {
         ensures count { result ≡ length self.now.rows }
         ensures stimulus { IsStimulus self.now }
     {
-        self.rows.len() as u32
+        self.rows.len()
     }
 
     /// The number of data inputs for which the stimulus is.
@@ -87,7 +86,7 @@ impl Stimulus {
         ensures bits { slice_get self.now.rows number ≡ Some result.now }
         ensures wide { length result.now ≡ length self.now.inputs }
     {
-        self.rows.as_slice()[number as usize].as_slice()
+        self.rows.row(number)
     }
 
     /// The names of the data inputs.

@@ -49,13 +49,43 @@ fn canonical(alloc: Global, netlist: &Netlist) -> Result<Vec<u8>, AllocError>
     requires { IsNetlist netlist.now }
     ensures { IfOk result (λ text. text.items ≡ blif netlist.now) }
 {
-    let mut out = Vec::new(alloc);
+    let mut out = Vec::with_capacity(alloc, likely_length(netlist))?;
     push_header(alloc, &mut out, netlist)?;
     push_cells(alloc, &mut out, netlist)?;
     push_gaters(alloc, &mut out, netlist)?;
     push_registers(alloc, &mut out, netlist)?;
     out.extend_from_slice(b".end\n")?;
     Ok(out)
+}
+
+/// About how long the text is, mostly somewhat more. Its room is made at once: a long text that grows stands in memory twice
+/// while it is moved.
+fn likely_length(netlist: &Netlist) -> usize {
+    let nets = netlist.nets() as usize;
+    if nets == 0 {
+        return 0;
+    }
+    let mention = (names_length(netlist) / nets).saturating_add(8);
+    mentions(netlist).saturating_mul(mention)
+}
+
+/// How many bytes the names of the nets have.
+fn names_length(netlist: &Netlist) -> usize {
+    let mut length = 0usize;
+    'nets: for number in 0..netlist.nets() {
+        length = length.saturating_add(netlist.name(NetId::new(number)).len());
+    }
+    length
+}
+
+/// About how often the parts name a net: a logic cell each input and its output, a register four.
+fn mentions(netlist: &Netlist) -> usize {
+    let mut count = 4 * netlist.registers() as usize;
+    'cells: for number in 0..netlist.cells() {
+        let cell = netlist.cell(CellId::new(number));
+        count = count.saturating_add(cell.inputs.len()).saturating_add(1);
+    }
+    count
 }
 
 /// Appends the lines before the parts.

@@ -58,6 +58,10 @@ fn canonical(alloc: Global, netlist: &Netlist) -> Result<Vec<u8>, AllocError>
     Ok(out)
 }
 
+/// The most bytes that are made room for before the text has them: where few nets with long names are named often, the guess would
+/// be far too large.
+const MOST_GUESSED: usize = 1 << 26;
+
 /// About how long the text is, mostly somewhat more. Its room is made at once: a long text that grows stands in memory twice
 /// while it is moved.
 fn likely_length(netlist: &Netlist) -> usize {
@@ -66,7 +70,12 @@ fn likely_length(netlist: &Netlist) -> usize {
         return 0;
     }
     let mention = (names_length(netlist) / nets).saturating_add(8);
-    mentions(netlist).saturating_mul(mention)
+    let guess = mentions(netlist).saturating_mul(mention);
+    if guess < MOST_GUESSED {
+        guess
+    } else {
+        MOST_GUESSED
+    }
 }
 
 /// How many bytes the names of the nets have.

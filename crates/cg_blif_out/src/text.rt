@@ -18,6 +18,7 @@ ghost use Rattle.cg_netlist_parts.specs.Writable.{IsWritable, NIL};
 ghost use Rattle.cg_netlist_placed.specs.Within.{CellNets, GaterNets, RegisterNets};
 ghost use Rattle.cg_text.specs.Written.{line_text};
 
+use crate::room::likely_length;
 use cg_blif_text::statement::{Statement, Word};
 use cg_cell::cell::CellType;
 use cg_cell::cover::Cover;
@@ -56,45 +57,6 @@ fn canonical(alloc: Global, netlist: &Netlist) -> Result<Vec<u8>, AllocError>
     push_registers(alloc, &mut out, netlist)?;
     out.extend_from_slice(b".end\n")?;
     Ok(out)
-}
-
-/// The most bytes that are made room for before the text has them: where few nets with long names are named often, the guess would
-/// be far too large.
-const MOST_GUESSED: usize = 1 << 26;
-
-/// About how long the text is, mostly somewhat more. Its room is made at once: a long text that grows stands in memory twice
-/// while it is moved.
-fn likely_length(netlist: &Netlist) -> usize {
-    let nets = netlist.nets() as usize;
-    if nets == 0 {
-        return 0;
-    }
-    let mention = (names_length(netlist) / nets).saturating_add(8);
-    let guess = mentions(netlist).saturating_mul(mention);
-    if guess < MOST_GUESSED {
-        guess
-    } else {
-        MOST_GUESSED
-    }
-}
-
-/// How many bytes the names of the nets have.
-fn names_length(netlist: &Netlist) -> usize {
-    let mut length = 0usize;
-    'nets: for number in 0..netlist.nets() {
-        length = length.saturating_add(netlist.name(NetId::new(number)).len());
-    }
-    length
-}
-
-/// About how often the parts name a net: a logic cell each input and its output, a register four.
-fn mentions(netlist: &Netlist) -> usize {
-    let mut count = 4 * netlist.registers() as usize;
-    'cells: for number in 0..netlist.cells() {
-        let cell = netlist.cell(CellId::new(number));
-        count = count.saturating_add(cell.inputs.len()).saturating_add(1);
-    }
-    count
 }
 
 /// Appends the lines before the parts.

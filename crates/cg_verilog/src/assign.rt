@@ -27,9 +27,10 @@ use cg_verilog_items::net::Net;
 use cg_verilog_text::fault::ItemFault;
 use std::alloc::{AllocError, Global};
 
-/// Tells a builder that a net is a form.
+/// Tells a builder that a net is a form. Rows are made in `row`, whatever it held.
 pub fn assign(
     alloc: Global,
+    row: &mut Vec<Option<bool>>,
     builder: &mut Builder,
     output: &Net<'_>,
     form: Form<'_>,
@@ -43,7 +44,7 @@ pub fn assign(
     if inputs.len() > MOST_COVER_INPUTS {
         return Err(Refusal::Item(ItemFault::Limit(Limit::CoverInputs)));
     }
-    let cover = Cover::new(rows_of(alloc, &inputs, terms.as_slice())?, on);
+    let cover = Cover::new(rows_of(alloc, row, &inputs, terms.as_slice())?, on);
     heard(tell_cover(alloc, builder, &inputs, output, cover))
 }
 

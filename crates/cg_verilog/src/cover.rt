@@ -1,6 +1,6 @@
 //! The logic cell of a form.
 
-ghost use Rattle.std.specs.Prelude.{◌≡◌, ◌<◌, ◌∷◌, ◌++◌, [], Bool, List, None, Some, IfOk, IsTrue, length, map, nat_le, set, slice_get};
+ghost use Rattle.std.specs.Prelude.{◌≡◌, ◌<◌, ◌∷◌, ◌++◌, [], Bool, List, None, Some, IfOk, IsTrue, OnOk, length, map, nat_le, set, slice_get};
 ghost use Rattle.std.specs.List.{AllByRecursion, flat_map, list_all};
 ghost use Rattle.std.specs.Str.{bytes_eq};
 ghost use Rattle.cg_cell.specs.Name.{is_name};
@@ -94,9 +94,10 @@ fn with_nets(alloc: Global, before: NetNames, term: &[Literal<'_>]) -> Result<Ne
     Ok(names)
 }
 
-/// The rows of terms: a place for each input, with the bit of the literal that is its.
+/// The rows of terms: a place for each input, with the bit of the literal that is its. Each is made in `row`, whatever it held.
 pub fn rows_of(
     alloc: Global,
+    row: &mut Vec<Option<bool>>,
     inputs: &Inputs<'_>,
     terms: &[Seq<Literal<'_>>],
 ) -> Result<CoverRows, AllocError>
@@ -104,25 +105,26 @@ pub fn rows_of(
 {
     let mut rows = CoverRows::new(alloc);
     'terms: for term in terms {
-        let row = row_of(alloc, inputs, term.as_slice())?;
-        rows.push(&row)?;
+        make_row(row, inputs, term.as_slice())?;
+        rows.push(row)?;
     }
     Ok(rows)
 }
 
-/// The row of a term.
-fn row_of(
-    alloc: Global,
+/// Makes the row of a term.
+fn make_row(
+    row: &mut Vec<Option<bool>>,
     inputs: &Inputs<'_>,
     term: &[Literal<'_>],
-) -> Result<Vec<Option<bool>>, AllocError>
-    ensures { IfOk result (λ row. row.items ≡ row_of bytes_eq inputs.now term.now) }
+) -> Result<(), AllocError>
+    ensures { OnOk result (row.new.items ≡ row_of bytes_eq inputs.now term.now) }
 {
-    let mut row = vec![in alloc; None; inputs.len()]?;
+    row.clear();
+    row.resize(inputs.len(), None)?;
     'literals: for literal in term {
-        put_literal(&mut row, inputs, literal);
+        put_literal(row, inputs, literal);
     }
-    Ok(row)
+    Ok(())
 }
 
 /// Puts the bit of a literal at the place of its net, unless there is one.

@@ -55,6 +55,9 @@ pub struct Telling {
 
     /// The nets of plain registers.
     pub updated: NetNames,
+
+    /// Where the rows of forms are made, one after another: it is kept for its memory alone.
+    pub row: Vec<Option<bool>>,
 }
 
 impl Telling {
@@ -69,6 +72,7 @@ impl Telling {
             first: None,
             inits: GivenInits::new(alloc),
             updated: NetNames::new(alloc),
+            row: Vec::new(alloc),
         })
     }
 
@@ -140,7 +144,7 @@ impl Telling {
             }
             return Ok(());
         }
-        let answer = assign(alloc, &mut self.builder, net, form);
+        let answer = assign(alloc, &mut self.row, &mut self.builder, net, form);
         self.note(line, answer)
     }
 

@@ -312,7 +312,8 @@ impl<'a> Reading<'a> {
         ensures end { self.new.1 ≡ self.old.1 }
         ensures left { IsRead self.old.1 (rest_of_term first.entry self.old.0) self.new.0 result }
     {
-        let term = Term::new(alloc).with(alloc, first)?;
+        let mut term = Term::new(alloc);
+        term.push(first)?;
         if self.is_mark(b'&') {
             self.pass();
             return self.product(alloc, term);
@@ -374,7 +375,13 @@ impl<'a> Reading<'a> {
         'literals: loop {
             match self.literal(alloc, Before::Term(&term)) {
                 Err(stop) => return Err(stop),
-                Ok(literal) => term = term.with(alloc, literal)?,
+                Ok(literal) => {
+                    if term.is_short() {
+                        term.push(literal)?;
+                    } else {
+                        term = term.with(alloc, literal)?;
+                    }
+                }
             }
             if !self.is_mark(b'&') {
                 return Ok(term.into_literals());
@@ -384,6 +391,7 @@ impl<'a> Reading<'a> {
     }
 
     /// Reads a literal whose net is none of those before it.
+    #[inline(always)]
     fn literal(&mut self, alloc: Global, before: Before<'_, 'a>) -> Result<Literal<'a>, Stop>
         ensures end { self.new.1 ≡ self.old.1 }
         ensures left { IsRead self.old.1 (literal (before_seen before.entry) self.old.0) self.new.0 result }

@@ -70,6 +70,7 @@ impl<'a> Net<'a> {
 
 impl<'a> Reading<'a> {
     /// Reads a net: a name, or a plain identifier and a number in brackets.
+    #[inline(always)]
     pub fn net(&mut self, alloc: Global) -> Result<Net<'a>, Stop>
         ensures end { self.new.1 ≡ self.old.1 }
         ensures left { IsRead self.old.1 (net self.old.0) self.new.0 result }

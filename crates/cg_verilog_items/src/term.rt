@@ -1,6 +1,6 @@
 //! Literals, and the terms that they are.
 
-ghost use Rattle.std.specs.Prelude.{◌≡◌, ◌∷◌, ◌++◌, ◌≤◌, [], length, IfOk};
+ghost use Rattle.std.specs.Prelude.{◌≡◌, ◌∷◌, ◌++◌, ◌<◌, ◌≤◌, [], length, nat_lt, IfOk, OnOk};
 ghost use Rattle.std.specs.List.{list_any};
 ghost use Rattle.std.specs.Str.{bytes_eq};
 ghost use Rattle.cg_verilog_text.specs.Forms.{inverse};
@@ -88,6 +88,22 @@ impl<'a> Term<'a> {
             literals: Seq::new(alloc),
             table: NetNames::new(alloc),
         }
+    }
+
+    /// Whether it has so few literals that one more needs no table.
+    pub fn is_short(&self) -> bool
+        ensures { result ≡ nat_lt (length self.now) MOST_WITHOUT_TABLE }
+    {
+        self.literals.len() < MOST_WITHOUT_TABLE
+    }
+
+    /// Puts a literal behind the few that it has.
+    pub fn push(&mut self, literal: Literal<'a>) -> Result<(), AllocError>
+        requires { length self.old < MOST_WITHOUT_TABLE }
+        ensures { OnOk result (self.new ≡ self.old ++ literal.entry ∷ []) }
+    {
+        self.literals.push(literal)?;
+        Ok(())
     }
 
     /// This term with one literal more.

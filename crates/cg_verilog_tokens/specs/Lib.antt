@@ -1,3 +1,4 @@
+pub mod Beginnings
 pub mod Passing
 pub mod PlainNames
 pub mod Runs

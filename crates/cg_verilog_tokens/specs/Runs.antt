@@ -1,9 +1,7 @@
--- Which bytes go on with what began, and how long a lexeme may be.
-use Rattle.std.specs.Prelude.{ℕ, ◌≤◌, Bool, not}
+-- Which bytes go on with what began.
+use Rattle.std.specs.Prelude.{ℕ, Bool, not}
 use Rattle.cg_text.specs.Blanks.{is_line_feed, is_white_space}
 use Rattle.cg_verilog_text.specs.Lexeme.{is_in_number, is_in_word}
-use Rattle.cg_verilog_text.specs.declared.lexeme.Lexeme.{Lexeme}
-use Rattle.cg_verilog_text.specs.declared.lexeme.Lexeme.TheVariants.{Blank, Token, Open}
 use Rattle.cg_verilog_tokens.specs.declared.lexeme.Run.{Run}
 use Rattle.cg_verilog_tokens.specs.declared.lexeme.Run.TheVariants.{Word, Number, Escaped, Line}
 
@@ -12,9 +10,3 @@ in_run Word byte = is_in_word byte
 in_run Number byte = is_in_number byte
 in_run Escaped byte = not (is_white_space byte)
 in_run Line byte = not (is_line_feed byte)
-
--- a lexeme that ends within so many bytes
-abbrev pub IsWithin : ℕ → Lexeme → Type 0
-IsWithin room (Blank more) = more ≤ room
-IsWithin room (Token kind more) = more ≤ room
-IsWithin room Open = Unit {0}

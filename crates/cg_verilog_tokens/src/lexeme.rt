@@ -1,16 +1,34 @@
 //! What begins at a byte of a text.
 
-ghost use Rattle.std.specs.Prelude.{◌≡◌, ◌+◌, ◌≤◌, ◌==◌, false, length, not, slice_index, IfSome};
+ghost use Rattle.std.specs.Prelude.{◌≡◌, ◌+◌, ◌<◌, ◌≤◌, ◌==◌, ℕ, false, length, not, slice_index, take, IfSome};
+ghost use Rattle.cg_scan.specs.Runs.{is_blank_or};
 ghost use Rattle.cg_text.specs.Blanks.{is_white_space};
 ghost use Rattle.cg_verilog_text.specs.Lexeme.{based_length, closed, closed_by, closing_length, is_digit, is_in_number, is_in_word, is_letter};
 ghost use Rattle.cg_verilog_text.specs.Lexeme.{is_mark_byte, lexeme, run_length, skips_line};
-ghost use Rattle.cg_verilog_tokens.specs.PlainNames.{IsPlainName};
-ghost use Rattle.cg_verilog_tokens.specs.Runs.{in_run, IsWithin};
+ghost use Rattle.cg_verilog_text.specs.declared.kind.Kind.TheVariants.{Escaped};
+ghost use Rattle.cg_verilog_text.specs.declared.lexeme.Lexeme.TheVariants.{Token};
+ghost use Rattle.cg_verilog_tokens.specs.Beginnings.{IsEscapedName, IsWithin, begun};
+ghost use Rattle.cg_verilog_tokens.specs.PlainNames.{IsNamedIf, IsPlainName};
+ghost use Rattle.cg_verilog_tokens.specs.Runs.{in_run};
 
 use cg_scan::first::first_blank_or;
 use cg_text::blanks::is_white_space;
 use cg_verilog_text::kind::Kind;
-use cg_verilog_text::lexeme::Lexeme;
+
+/// What begins at a byte of a text, with the number of its bytes behind the first.
+pub enum Begun {
+    /// What only stands between tokens.
+    Blank(usize),
+
+    /// A token of a kind.
+    Token(Kind, usize),
+
+    /// An escaped identifier, and whether it is known to be a name.
+    Escaped(usize, bool),
+
+    /// A comment or an attribute that the text does not close.
+    Open,
+}
 
 /// Which bytes go on.
 #[derive(Clone, Copy)]
@@ -83,16 +101,17 @@ fn closing_bytes(last: u8, after: &[u8]) -> Option<usize>
 }
 
 /// The comment or attribute of this last byte, behind its first byte.
-fn closed_by(last: u8, after: &[u8]) -> Lexeme
-    ensures lexeme { result ≡ closed_by last after.now }
+fn closed_by(last: u8, after: &[u8]) -> Begun
+    ensures lexeme { begun result ≡ closed_by last after.now }
     ensures within { IsWithin (length after.now) result }
     ensures plain { IsPlainName 42 after.now result }
+    ensures named { IsEscapedName after.now result }
 {
     match after.split_first() {
-        None => Lexeme::Open,
+        None => Begun::Open,
         Some((_star, later)) => match closing_bytes(last, later) {
-            None => Lexeme::Open,
-            Some(more) => Lexeme::Blank(1 + more),
+            None => Begun::Open,
+            Some(more) => Begun::Blank(1 + more),
         },
     }
 }
@@ -145,44 +164,61 @@ fn begins_with(after: &[u8], byte: u8) -> bool
     }
 }
 
-/// The number of bytes of an escaped identifier behind its `\`. Most end at the first byte that no name has, which is found at once.
-fn escaped_bytes(after: &[u8]) -> usize
-    ensures length { result ≡ run_length (λ b. not (is_white_space b)) after.now }
-    ensures within { result ≤ length after.now }
+/// The escaped identifier behind its `\`. Most end at the first byte that no name has, which is found at once, and are names.
+fn escaped(after: &[u8]) -> Begun
+    ensures lexeme { begun result ≡ Token Escaped (run_length (λ b. not (is_white_space b)) after.now) }
+    ensures within { IsWithin (length after.now) result }
+    ensures named { IsEscapedName after.now result }
 {
     let named = first_blank_or(after, b'#');
     if named == after.len() || is_white_space(after[named]) {
-        return named;
+        return Begun::Escaped(named, are_name(after, named));
     }
-    run_bytes(Run::Escaped, after)
+    Begun::Escaped(run_bytes(Run::Escaped, after), false)
+}
+
+/// Whether the first `count` bytes, of which each may stand in a name, are one.
+fn are_name(bytes: &[u8], count: usize) -> bool
+    requires within { count ≤ length bytes.now }
+    requires fine { (k : ℕ) → k < count → is_blank_or 35 (slice_index bytes.now k) ≡ false }
+    ensures { IsNamedIf result (take count bytes.now) }
+{
+    if count == 0 {
+        return false;
+    }
+    if bytes[count - 1] == b'\\' {
+        return false;
+    }
+    true
 }
 
 /// What begins at a byte, with what stands after it; `fresh`: only blanks stand before it on its line.
 #[tactic(auto, using(crate::proofs::PlainNames::plain_name))]
-pub fn lexeme(fresh: bool, byte: u8, after: &[u8]) -> Lexeme
-    ensures lexeme { result ≡ lexeme fresh byte after.now }
+pub fn lexeme(fresh: bool, byte: u8, after: &[u8]) -> Begun
+    ensures lexeme { begun result ≡ lexeme fresh byte after.now }
     ensures within { IsWithin (length after.now) result }
     ensures plain { IsPlainName byte after.now result }
+    ensures named { IsEscapedName after.now result }
 {
     if is_white_space(byte) {
-        Lexeme::Blank(0)
+        Begun::Blank(0)
     } else if (byte == b'/' && begins_with(after, b'/')) || (byte == b'`' && fresh) {
-        Lexeme::Blank(run_bytes(Run::Line, after))
+        Begun::Blank(run_bytes(Run::Line, after))
     } else if byte == b'/' && begins_with(after, b'*') {
         closed_by(b'/', after)
     } else if byte == b'(' && begins_with(after, b'*') {
         closed_by(b')', after)
     } else if is_letter(byte) {
-        Lexeme::Token(Kind::Plain, run_bytes(Run::Word, after))
+        Begun::Token(Kind::Plain, run_bytes(Run::Word, after))
     } else if byte == b'\\' {
-        Lexeme::Token(Kind::Escaped, escaped_bytes(after))
+        escaped(after)
     } else if is_digit(byte) {
-        Lexeme::Token(Kind::Number, based_bytes(after))
+        Begun::Token(Kind::Number, based_bytes(after))
     } else if byte == b'<' && begins_with(after, b'=') {
-        Lexeme::Token(Kind::Arrow, 1)
+        Begun::Token(Kind::Arrow, 1)
     } else if is_mark_byte(byte) {
-        Lexeme::Token(Kind::Mark, 0)
+        Begun::Token(Kind::Mark, 0)
     } else {
-        Lexeme::Token(Kind::Other, 0)
+        Begun::Token(Kind::Other, 0)
     }
 }

@@ -1,6 +1,6 @@
 //! A token, and what it is.
 
-ghost use Rattle.std.specs.Prelude.{◌≡◌, false, true, MatchOption};
+ghost use Rattle.std.specs.Prelude.{◌≡◌, ◌∷◌, [], false, true, MatchOption};
 ghost use Rattle.std.specs.List.{list_any};
 ghost use Rattle.std.specs.Str.{bytes_eq};
 ghost use Rattle.cg_cell.specs.Name.{is_name};
@@ -100,7 +100,7 @@ impl<'a> Token<'a> {
         ensures { result ≡ is_mark byte self.now }
     {
         match self.kind {
-            Kind::Mark => self.text == [byte].as_slice(),
+            Kind::Mark => is_only(self.text, byte),
             _ => false,
         }
     }
@@ -166,6 +166,13 @@ impl<'a> Token<'a> {
             _ => false,
         }
     }
+}
+
+/// Whether bytes are this one alone.
+fn is_only(bytes: &[u8], byte: u8) -> bool
+    ensures { result ≡ bytes_eq bytes.now (byte ∷ []) }
+{
+    bytes.len() == 1 && bytes[0] == byte
 }
 
 /// Whether the bytes of a bit are a one.

@@ -1,19 +1,18 @@
 //! The tokens of a text, one after another.
 
-ghost use Rattle.std.specs.Prelude.{◌≡◌, ◌+◌, ◌<◌, ◌≤◌, ◌∷◌, ◌^◌, ℕ, List, [], length, true, drop, take, MatchOption};
+ghost use Rattle.std.specs.Prelude.{◌≡◌, ◌+◌, ◌<◌, ◌≤◌, ◌∷◌, ◌^◌, ℕ, List, [], length, true, drop, take, IfSome, MatchOption};
 ghost use Rattle.std.specs.List.{fold};
+ghost use Rattle.cg_text.specs.Blanks.{is_white_space};
 ghost use Rattle.cg_text.specs.Lines.{end_line};
 ghost use Rattle.cg_text.specs.Words.{lines};
 ghost use Rattle.cg_verilog_text.specs.Tokens.{next_line, stays_fresh, token_text, tokens};
 ghost use Rattle.cg_verilog_tokens.specs.Passing.{passed_fresh, passed_line};
-ghost use Rattle.cg_verilog_tokens.specs.PlainNames.{IsNamedIf};
 
-use crate::lexeme::lexeme;
+use crate::lexeme::{Begun, lexeme};
 use crate::token::Token;
-use cg_scan::first::{first_at, first_blank_or};
+use cg_scan::first::first_at;
 use cg_text::blanks::is_white_space;
 use cg_verilog_text::kind::Kind;
-use cg_verilog_text::lexeme::Lexeme;
 use std::marker::Model;
 
 /// A place in a text, from which its tokens are read.
@@ -73,29 +72,53 @@ impl<'a> Tokens<'a> {
         ensures token { MatchOption result ((self.old.0 ≡ []) × (self.new.0 ≡ [])) (λ token. self.old.0 ≡ token ∷ self.new.0) }
         ensures end { self.new.1 ≡ self.old.1 }
     {
+        self.skip_blanks();
         'gaps: while let Some(first) = first_of(self.rest) {
             let line = self.line;
             match lexeme(self.fresh, first.byte, first.rest) {
-                Lexeme::Blank(more) => {
+                Begun::Blank(more) => {
                     let place = passed(first.byte, first.rest, more, self.fresh, line);
                     self.rest = behind(first.rest, more);
                     self.fresh = place.fresh;
                     self.line = place.line;
                 }
-                Lexeme::Token(kind, more) => {
+                Begun::Token(kind, more) => {
                     let text = text_of(kind, self.rest, more);
-                    let named = is_escaped_name(kind, first.rest, more);
                     self.rest = behind(first.rest, more);
                     self.fresh = false;
-                    return Some(Token::known(line, kind, text, named));
+                    return Some(Token::new(line, kind, text));
                 }
-                Lexeme::Open => {
+                Begun::Escaped(more, named) => {
+                    let text = front(first.rest, more);
+                    self.rest = behind(first.rest, more);
+                    self.fresh = false;
+                    return Some(Token::known(line, Kind::Escaped, text, named));
+                }
+                Begun::Open => {
                     self.rest = &[];
                     return Some(Token::new(self.end, Kind::Other, &[]));
                 }
             }
         }
         None
+    }
+
+    /// Passes over the blanks at the front.
+    fn skip_blanks(&mut self)
+        ensures { self.new ≡ self.old }
+    {
+        let mut rest = self.rest;
+        let mut place = Place {
+            line: self.line,
+            fresh: self.fresh,
+        };
+        'blanks: while let Some(blank) = blank_of(rest) {
+            place = next_place(place, blank.byte);
+            rest = blank.rest;
+        }
+        self.rest = rest;
+        self.line = place.line;
+        self.fresh = place.fresh;
     }
 }
 
@@ -146,6 +169,16 @@ fn first_of(bytes: &[u8]) -> Option<First<'_>>
     })
 }
 
+/// The first byte, if there is one and it is a blank.
+fn blank_of(bytes: &[u8]) -> Option<First<'_>>
+    ensures { IfSome result (λ first. (bytes.entry.now ≡ first.byte ∷ first.rest.now) × (is_white_space first.byte ≡ true)) }
+{
+    match first_of(bytes) {
+        Some(first) if is_white_space(first.byte) => Some(first),
+        _ => None,
+    }
+}
+
 /// Where a byte stands: its line, and whether only blanks stand before it there.
 #[derive(Clone, Copy)]
 struct Place {
@@ -194,32 +227,12 @@ fn behind(bytes: &[u8], count: usize) -> &[u8]
     &bytes[count..]
 }
 
-/// Whether a token of a kind is an escaped identifier and a name; `more` of its bytes stand behind its first.
-fn is_escaped_name(kind: Kind, after: &[u8], more: usize) -> bool
-    requires { more ≤ length after.now }
-    ensures { (byte : ℕ) → IsNamedIf result (token_text kind more byte after.now) }
-{
-    match kind {
-        Kind::Escaped => begins_with_name(after, more),
-        _ => false,
-    }
-}
-
-/// Whether the first `count` bytes are a name. Bytes behind them are looked at, so that sixteen are at once.
-fn begins_with_name(bytes: &[u8], count: usize) -> bool
+/// The first `count` bytes.
+fn front(bytes: &[u8], count: usize) -> &[u8]
     requires { count ≤ length bytes.now }
-    ensures { IsNamedIf result (take count bytes.now) }
+    ensures { result.now ≡ take count bytes.entry.now }
 {
-    if count == 0 {
-        return false;
-    }
-    if bytes[count - 1] == b'\\' {
-        return false;
-    }
-    if first_blank_or(bytes, b'#') < count {
-        return false;
-    }
-    true
+    &bytes[..count]
 }
 
 /// The text of a token of a kind that begins with the first of the bytes and has `more` bytes behind it.

@@ -1,8 +1,9 @@
-use Rattle.std.proofs.Common.{◌∙◌, refl, subst}
+use Rattle.std.proofs.Common.{◌≡◌, ◌∙◌, ◌++◌, ◌∷◌, [], refl, subst}
 use Rattle.cg_verilog_text.specs.Forms.{literal, product}
 use Rattle.cg_verilog_items.specs.Readings.{Stops}
 use Rattle.cg_verilog_items.proofs.Parting.{begins, stops_whole, turn_less, turn_on, turn_out}
 use Rattle.cg_verilog_items.proofs.Shorter.{literal_shorter}
+use Rattle.cg_verilog_items.proofs.reading.Reading.product.Goals.{then-is_short+in_ok-push-in-Ok, else-is_short+in_ok-term-in-Ok}
 use Rattle.cg_verilog_items.proofs.reading.Reading.product.Goals as goal
 
 pub literals-init : goal.literals-init
@@ -14,13 +15,23 @@ returns-in-Err-clause-left c =
     (stops_whole 38 literal literal_shorter c.literals.self.1 c.literals.term c.literals.self.0 (product c.args.before c.args.self.now.0) c.in-Err.stop c.literals.invariant.left c.in-Err.ensures.left)
 
 pub returns-then-not-is_mark-clause-left : goal.returns-then-not-is_mark-clause-left
-returns-then-not-is_mark-clause-left c = turn_out 38 literal literal_shorter c.literals.term c.literals.self.0 c.in-Ok.literal c.literal.new.self.0 (product c.args.before c.args.self.now.0) c.literals.invariant.left c.in-Ok.ensures.left c.if-not-is_mark.ensures c.into_literals.result (c.into_literals.ensures ∙ c.in_ok-term-in-Ok.ensures)
+returns-then-not-is_mark-clause-left c =
+    let more : c.if-is_short.term ≡ c.literals.term ++ c.in-Ok.literal ∷ [] = elim c.if-is_short.branch [
+      | then-is_short+in_ok-push-in-Ok w ↦ cc (w.term-is, w.in_ok-push-in-Ok.ensures)
+      | else-is_short+in_ok-term-in-Ok w ↦ cc (w.term-is, w.in_ok-term-in-Ok.ensures)
+    ] in
+    turn_out 38 literal literal_shorter c.literals.term c.literals.self.0 c.in-Ok.literal c.literal.new.self.0 (product c.args.before c.args.self.now.0) c.literals.invariant.left c.in-Ok.ensures.left c.if-not-is_mark.ensures c.into_literals.result (c.into_literals.ensures ∙ more)
 
 pub literals-smaller : goal.literals-smaller
 literals-smaller c = turn_less 38 literal literal_shorter c.literals.term c.literals.self.0 c.in-Ok.literal c.literal.new.self.0 c.in-Ok.ensures.left c.if-not-is_mark.ensures c.pass.new.self.0 c.pass.ensures.left
 
 pub literals-preserved : goal.literals-preserved
-literals-preserved c = record {
-  left = turn_on 38 literal literal_shorter c.literals.term c.literals.self.0 c.in-Ok.literal c.literal.new.self.0 (product c.args.before c.args.self.now.0) c.literals.invariant.left c.in-Ok.ensures.left c.if-not-is_mark.ensures c.in_ok-term-in-Ok.term c.pass.new.self.0 c.in_ok-term-in-Ok.ensures c.pass.ensures.left;
-  end = c.pass.ensures.end ∙ (c.in-Ok.ensures.end ∙ c.literals.invariant.end);
-}
+literals-preserved c =
+    let more : c.if-is_short.term ≡ c.literals.term ++ c.in-Ok.literal ∷ [] = elim c.if-is_short.branch [
+      | then-is_short+in_ok-push-in-Ok w ↦ cc (w.term-is, w.in_ok-push-in-Ok.ensures)
+      | else-is_short+in_ok-term-in-Ok w ↦ cc (w.term-is, w.in_ok-term-in-Ok.ensures)
+    ] in
+    record {
+      left = turn_on 38 literal literal_shorter c.literals.term c.literals.self.0 c.in-Ok.literal c.literal.new.self.0 (product c.args.before c.args.self.now.0) c.literals.invariant.left c.in-Ok.ensures.left c.if-not-is_mark.ensures c.if-is_short.term c.pass.new.self.0 more c.pass.ensures.left;
+      end = c.pass.ensures.end ∙ (c.in-Ok.ensures.end ∙ c.literals.invariant.end);
+    }

@@ -1,5 +1,6 @@
 use Rattle.std.proofs.Common.{◌∙◌, sym, ap, arith, length, refl}
 use Rattle.std.proofs.lemmas.List.{length-drop}
+use Rattle.cg_verilog_text.specs.declared.kind.Kind.TheVariants.{Escaped}
 use Rattle.cg_verilog_tokens.proofs.TokensLeft.{blank_step, token_step}
 use Rattle.cg_verilog_tokens.proofs.TokensStay.{token_fresh, token_line}
 use Rattle.cg_verilog_tokens.proofs.tokens.Tokens.next.Goals as goal
@@ -25,4 +26,13 @@ returns-in-Token-clause-token c =
     let text = c.text_of-text.ensures c.in-Some.first.byte c.in-Some.first.rest.now split in
     let line = token_line inside.fresh inside.line c.in-Some.first.byte c.in-Some.first.rest.now c.in-Token.kind c.in-Token.more c.in-Token.ensures.lexeme in
     let fresh = token_fresh inside.fresh c.in-Some.first.byte c.in-Some.first.rest.now c.in-Token.kind c.in-Token.more c.in-Token.ensures.lexeme in
-    rw (c.known.ensures, text, c.behind-self-inside-in-Token.ensures) (sym c.gaps.invariant.left ∙ (step ∙ rw (fresh, line) refl))
+    rw (c.new.ensures, text, c.behind-self-inside-in-Token.ensures) (sym c.gaps.invariant.left ∙ (step ∙ rw (fresh, line) refl))
+
+pub returns-in-Escaped-clause-token : goal.returns-in-Escaped-clause-token
+returns-in-Escaped-clause-token c =
+    let split = c.in-Some.ensures in
+    let inside = c.gaps.self-inside in
+    let step = token_step inside.end inside.fresh inside.line c.in-Some.first.byte c.in-Escaped.more Escaped inside.rest.now c.in-Some.first.rest.now split c.in-Escaped.ensures.lexeme in
+    let line = token_line inside.fresh inside.line c.in-Some.first.byte c.in-Some.first.rest.now Escaped c.in-Escaped.more c.in-Escaped.ensures.lexeme in
+    let fresh = token_fresh inside.fresh c.in-Some.first.byte c.in-Some.first.rest.now Escaped c.in-Escaped.more c.in-Escaped.ensures.lexeme in
+    rw (c.known.ensures, c.front-text.ensures, c.behind-self-inside-in-Escaped.ensures) (sym c.gaps.invariant.left ∙ (step ∙ rw (fresh, line) refl))

@@ -3,6 +3,8 @@ use Rattle.std.proofs.Common.{◌≡◌, ℕ, Bool, true, false, if◌then◌els
 use Rattle.std.proofs.Common.{Some, refl, sym, ◌∙◌, ap, subst, append_assoc}
 use Rattle.std.proofs.lemmas.List.{append-nil}
 use Rattle.std.proofs.lemmas.List.Elements.{All-append, All-cons, All-nil}
+use Rattle.std.specs.declared.alloc.Global.{Global}
+use Rattle.std.specs.declared.vec.Vec.{Vec}
 use Rattle.cg_aig.specs.Aig.{aig_ops}
 use Rattle.cg_claim.specs.Build.{claim_run}
 use Rattle.cg_claim.specs.Laws.{GoalViolates, NeverIsTried}
@@ -13,15 +15,15 @@ use Rattle.cg_claim.specs.Violates.{SidesFit}
 use Rattle.cg_claim.specs.declared.leaf.LeafBit.{LeafBit}
 use Rattle.cg_claim.specs.declared.name.ClaimName.{ClaimName}
 use Rattle.cg_cnf.specs.Clauses.{IsOneAt, formula_of}
-use Rattle.cg_decide.specs.Decision.{IsNeverOne, IsProved, IsWritableDecision as CanBeWritten}
+use Rattle.cg_decide.specs.Decision.{IsExact, IsNeverOne, IsProved, IsWritableDecision as CanBeWritten}
 use Rattle.cg_cell.specs.Domain.{Seen}
 use Rattle.cg_decide.specs.declared.decision.Decision.{Decision}
-use Rattle.cg_decide.specs.declared.decision.Decision.TheVariants.{Never}
+use Rattle.cg_decide.specs.declared.decision.Decision.TheVariants.{Never, Sometimes}
 use Rattle.cg_formula.specs.Bounds.{IsFormula}
 use Rattle.cg_formula.specs.declared.formula.Formula.{Formula}
 use Rattle.cg_lrat.specs.Bounds.{AreNumbered, IsLog}
 use Rattle.cg_lrat.specs.declared.log.Log.{Log}
-use Rattle.cg_hold.proofs.Decided.{decided_never, decided_sometimes}
+use Rattle.cg_hold.proofs.Decided.{decided_never, decided_sometimes, exactly_never, exactly_sometimes, told}
 use Rattle.cg_hold.proofs.ListNumber.{claim_number}
 use Rattle.cg_lrat.specs.AcceptedLog.{IsAccepted}
 use Rattle.cg_machine.specs.Machine.{IsMachine, MachineData}
@@ -45,7 +47,7 @@ module _ (goals : GoalViolates) (law : NeverIsTried) (m : MachineData) (q : Ques
       → (length bits ≡ length claim.leaves → map (λ (b : LeafBit). b.leaf) seq ≡ claim.leaves) → (length bits ≡ length claim.leaves → map (λ (b : LeafBit). b.bit) seq ≡ bits)
       → (is_never m q ≡ false) × DoViolate m q seq
   settled_bits bits one seq leaves_are bits_are = (
-    sym (decided_sometimes law m q width claim good fits is bits one),
+    sym (decided_sometimes law m q width claim good fits (told m q width claim is) bits one),
     record {
       leaves = leaves_are long ∙ is.leaves;
       violated = ap (violates_at m q) (bits_are long) ∙ (sym (goals m q bits good fits) ∙ (sym (ap (λ s. aig_ops.bit s bits claim.goal) is.list ∙ ap (λ a. aig_ops.bit (claim_run m q).domain bits a) is.goal) ∙ one.one));
@@ -60,7 +62,7 @@ module _ (goals : GoalViolates) (law : NeverIsTried) (m : MachineData) (q : Ques
       → certificate.stage ≡ number → certificate.claim ≡ name → certificate.formula ≡ formula_of claim.aig claim.goal → IsAccepted certificate.formula certificate.log → IsWritableCertificate certificate → after ≡ before ++ certificate ∷ []
       → IsDecided proof m number (name, q) before after None
   settled_never proof number name before after certificate wanted never stage_is name_is formula_is accepted writable whole = (
-    sym (decided_never law m q width claim good fits is never),
+    sym (decided_never law m q width claim good fits (told m q width claim is) never),
     record {
       appended = subst (λ (b : Bool). AreAppended (if b then numbered m number ((name, q) ∷ []) else []) before after) (sym wanted)
           (record { more = certificate ∷ []; whole = whole; certified = (certifies, refl) });
@@ -79,7 +81,7 @@ module _ (goals : GoalViolates) (law : NeverIsTried) (m : MachineData) (q : Ques
   -- that the goal is never 1, where no proof is wanted
   pub settled_alone : (proof : Bool) (number : ℕ) (name : ClaimName) (items : List Certificate) → proof ≡ false → IsNeverOne claim.aig claim.goal → IsDecided proof m number (name, q) items items None
   settled_alone proof number name items unwanted never = (
-    sym (decided_never law m q width claim good fits is never),
+    sym (decided_never law m q width claim good fits (told m q width claim is) never),
     record {
       appended = subst (λ (b : Bool). AreAppended (if b then numbered m number ((name, q) ∷ []) else []) items items) (sym unwanted) (nothing_more items items refl);
       writable = λ are. are;
@@ -87,6 +89,12 @@ module _ (goals : GoalViolates) (law : NeverIsTried) (m : MachineData) (q : Ques
   )
 
 -- a decision, as it is told
+pub never_decided : (s t : Seen) (g h : ℕ) (d : Decision) (f : Formula) (log : Log) → s ≡ t → g ≡ h → IsExact s g d → d ≡ Never f log → IsNeverOne t h
+never_decided s t g h d f log same goals exact is = subst (λ z. IsNeverOne z h) same (subst (λ z. IsNeverOne s z) goals (exactly_never s g d f log exact is))
+
+pub sometimes_decided : (s t : Seen) (g h : ℕ) (d : Decision) (bits : Vec Bool Global) → s ≡ t → g ≡ h → IsExact s g d → d ≡ Sometimes bits → IsOneAt t h bits.items
+sometimes_decided s t g h d bits same goals exact is = subst (λ z. IsOneAt z h bits.items) same (subst (λ z. IsOneAt s z bits.items) goals (exactly_sometimes s g d bits exact is))
+
 pub proved_decided : (s t : Seen) (g h : ℕ) (d : Decision) (f : Formula) (log : Log) → s ≡ t → g ≡ h → IsProved s g d → d ≡ Never f log → (f ≡ formula_of t h) × IsAccepted f log
 proved_decided s t g h d f log same goals proved is =
     let p : (f ≡ formula_of s g) × IsAccepted f log = subst (IsProved s g) is proved in

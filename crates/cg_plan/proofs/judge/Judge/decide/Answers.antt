@@ -1,7 +1,6 @@
 use Rattle.std.proofs.Common.{◌≡◌, [], append-nil, length, refl, sym, ◌∙◌, ap}
-use Rattle.cg_hold.proofs.Decided.{never_decided, sometimes_decided}
 use Rattle.cg_plan_laws.specs.declared.certificate.Certificate.{Certificate}
-use Rattle.cg_plan.proofs.Deciding.{proved_decided, settled_alone, settled_bits, settled_never, writable_decided}
+use Rattle.cg_plan.proofs.Deciding.{never_decided, proved_decided, settled_alone, settled_bits, settled_never, sometimes_decided, writable_decided}
 use Rattle.cg_plan.proofs.judge.Judge.decide.Goals as goal
 
 pub returns-then-shown-clause-decided : goal.returns-then-shown-clause-decided

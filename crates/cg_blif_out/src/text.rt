@@ -18,7 +18,6 @@ ghost use Rattle.cg_netlist_parts.specs.Writable.{IsWritable, NIL};
 ghost use Rattle.cg_netlist_placed.specs.Within.{CellNets, GaterNets, RegisterNets};
 ghost use Rattle.cg_text.specs.Written.{line_text};
 
-use crate::room::likely_length;
 use cg_blif_text::statement::{Statement, Word};
 use cg_cell::cell::CellType;
 use cg_cell::cover::Cover;
@@ -50,7 +49,7 @@ fn canonical(alloc: Global, netlist: &Netlist) -> Result<Vec<u8>, AllocError>
     requires { IsNetlist netlist.now }
     ensures { IfOk result (λ text. text.items ≡ blif netlist.now) }
 {
-    let mut out = Vec::with_capacity(alloc, likely_length(netlist))?;
+    let mut out = Vec::new(alloc);
     push_header(alloc, &mut out, netlist)?;
     push_cells(alloc, &mut out, netlist)?;
     push_gaters(alloc, &mut out, netlist)?;

@@ -1,7 +1,7 @@
 //! Reading what stands behind the `=` of an `assign`.
 
 ghost use Rattle.std.specs.Prelude.{◌≡◌, ◌∷◌, ◌<◌, [], true, false, if◌then◌else◌, length, IfOk};
-ghost use Rattle.cg_verilog_text.specs.Forms.{choosing, differing, form, fresh_literal, from_literal, literal, on_of, product, rest_of_sum, rest_of_term, sum, term, terms_of};
+ghost use Rattle.cg_verilog_text.specs.Forms.{Choice as ChoiceSeen, Differ as DifferSeen, choosing, differing, form, fresh_literal, from_literal, literal, on_of, product, rest_of_sum, rest_of_term, sum, term, terms_of};
 ghost use Rattle.cg_verilog_text.specs.Reading.{after, ended_by};
 ghost use Rattle.cg_verilog_items.specs.FormParts.{constant, from_term, inverted_form, inverted_sum, plain_sum, rest_of_terms};
 ghost use Rattle.cg_verilog_items.specs.FormSeen.{HasTerms};
@@ -26,10 +26,30 @@ pub enum FormKind<'a> {
     Sum(bool, Seq<Seq<Literal<'a>>>),
 
     /// Two literals that differ.
-    Differ(Literal<'a>, Literal<'a>),
+    Differ(Box<Pair<'a>>),
 
-    /// A choice by the first literal of the second or the third.
-    Choice(Literal<'a>, Literal<'a>, Literal<'a>),
+    /// A choice by a literal of the first or the second of two.
+    Choice(Box<Choice<'a>>),
+}
+
+/// Two literals. They stand in a box where they make a form, since most forms are sums, and a form is handed on by value.
+#[derive(Drop)]
+pub struct Pair<'a> {
+    /// The first.
+    pub first: Literal<'a>,
+
+    /// The second.
+    pub second: Literal<'a>,
+}
+
+/// A literal that chooses one of two.
+#[derive(Drop)]
+pub struct Choice<'a> {
+    /// The literal that chooses.
+    pub condition: Literal<'a>,
+
+    /// What it chooses from, the first where it is 1.
+    pub chosen: Pair<'a>,
 }
 
 /// A form.
@@ -70,18 +90,34 @@ impl<'a> Form<'a> {
         match self.kind {
             FormKind::Constant(value) => constant_terms(alloc, value),
             FormKind::Sum(_, terms) => Ok(terms),
-            FormKind::Differ(first, second) => {
-                let one = pair(alloc, first.copied(alloc)?, second.inverse(alloc)?)?;
-                let other = pair(alloc, first.inverse(alloc)?, second)?;
-                pair_of_terms(alloc, one, other)
-            }
-            FormKind::Choice(condition, first, second) => {
-                let one = pair(alloc, condition.copied(alloc)?, first)?;
-                let other = pair(alloc, condition.inverse(alloc)?, second)?;
-                pair_of_terms(alloc, one, other)
-            }
+            FormKind::Differ(pair) => differing_terms(alloc, Box::into_inner(pair)),
+            FormKind::Choice(choice) => choice_terms(alloc, Box::into_inner(choice)),
         }
     }
+}
+
+/// The terms of two literals that differ.
+fn differing_terms<'a>(
+    alloc: Global,
+    differing: Pair<'a>,
+) -> Result<Seq<Seq<Literal<'a>>>, AllocError>
+    ensures { IfOk result (λ terms. terms ≡ terms_of (DifferSeen differing.entry.first differing.entry.second)) }
+{
+    let Pair { first, second } = differing;
+    let one = two_literals(alloc, first.copied(alloc)?, second.inverse(alloc)?)?;
+    let other = two_literals(alloc, first.inverse(alloc)?, second)?;
+    pair_of_terms(alloc, one, other)
+}
+
+/// The terms of a choice.
+fn choice_terms<'a>(alloc: Global, choice: Choice<'a>) -> Result<Seq<Seq<Literal<'a>>>, AllocError>
+    ensures { IfOk result (λ terms. terms ≡ terms_of (ChoiceSeen choice.entry.condition choice.entry.chosen.first choice.entry.chosen.second)) }
+{
+    let Choice { condition, chosen } = choice;
+    let Pair { first, second } = chosen;
+    let one = two_literals(alloc, condition.copied(alloc)?, first)?;
+    let other = two_literals(alloc, condition.inverse(alloc)?, second)?;
+    pair_of_terms(alloc, one, other)
 }
 
 /// The terms of a bit: an empty one, or none.
@@ -96,7 +132,7 @@ fn constant_terms<'a>(alloc: Global, value: bool) -> Result<Seq<Seq<Literal<'a>>
 }
 
 /// Two literals.
-fn pair<'a>(
+fn two_literals<'a>(
     alloc: Global,
     first: Literal<'a>,
     second: Literal<'a>,
@@ -239,7 +275,7 @@ impl<'a> Reading<'a> {
     {
         let second = self.literal(alloc, Before::One(&first))?;
         Ok(Form {
-            kind: FormKind::Differ(first, second),
+            kind: FormKind::Differ(Box::new(alloc, Pair { first, second })?),
         })
     }
 
@@ -250,8 +286,15 @@ impl<'a> Reading<'a> {
     {
         let second = self.second_literal(alloc, &first)?;
         let third = self.literal(alloc, Before::Two(&first, &second))?;
+        let choice = Choice {
+            condition: first,
+            chosen: Pair {
+                first: second,
+                second: third,
+            },
+        };
         Ok(Form {
-            kind: FormKind::Choice(first, second, third),
+            kind: FormKind::Choice(Box::new(alloc, choice)?),
         })
     }
 

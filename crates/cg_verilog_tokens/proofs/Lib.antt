@@ -1,3 +1,4 @@
+pub mod CommonLexemes
 pub mod EscapedRuns
 pub mod LineCounts
 pub mod PlainNames

@@ -1,5 +1,6 @@
 -- What begins at a byte, as it is found.
-use Rattle.std.specs.Prelude.{ℕ, ◌≤◌, List, take}
+use Rattle.std.specs.Prelude.{ℕ, ◌≤◌, ◌==◌, Bool, List, codes, take}
+use Rattle.std.specs.List.{list_any}
 use Rattle.cg_verilog_text.specs.declared.kind.Kind.TheVariants as kinds
 use Rattle.cg_verilog_text.specs.declared.lexeme.Lexeme.{Lexeme}
 use Rattle.cg_verilog_text.specs.declared.lexeme.Lexeme.TheVariants as lexemes
@@ -24,3 +25,7 @@ IsWithin room Open = Unit {0}
 abbrev pub IsEscapedName : List ℕ → Begun → Type 0
 IsEscapedName after (Escaped more named) = IsNamedIf named (take more after)
 IsEscapedName after other = Unit {0}
+
+-- one of the marks that nothing behind them makes part of something else
+abbrev pub is_lone_mark : ℕ → Bool
+is_lone_mark byte = list_any (λ mark. byte == mark) (codes ");,.[]:=~&|^?@")

@@ -23,7 +23,7 @@ use cg_netlist_parts::fault::NetFault;
 use cg_verilog_items::reading::Reading;
 use cg_verilog_items::stop::Stop;
 use cg_verilog_text::fault::{ItemFault, VerilogFault};
-use cg_verilog_tokens::tokens::{Tokens, line_behind};
+use cg_verilog_tokens::tokens::Tokens;
 use std::alloc::Global;
 
 /// Reads a text with the cells of a library. One pass over the text. Memory is as the text is long and as the names of the netlist's nets
@@ -83,7 +83,7 @@ fn build(
 fn tell(alloc: Global, text: &[u8], library: &Library) -> Result<Telling, VerilogFault>
     ensures { IsTold library.now text.now result }
 {
-    let mut reading = Reading::new(Tokens::new(text, line_behind(text)));
+    let mut reading = Reading::new(Tokens::new(text));
     match reading.header(alloc) {
         Err(Stop::NoMemory) => Err(VerilogFault::NoMemory),
         Err(Stop::At(line)) => Err(VerilogFault::BadText(line)),

@@ -20,6 +20,9 @@ use std::marker::Model;
 /// Clauses see the tokens that are left, and the number of the line behind the last.
 #[derive(Drop)]
 pub struct Tokens<'a> {
+    /// The bytes of the text.
+    text: &'a [u8],
+
     /// The bytes that are left.
     rest: &'a [u8],
 
@@ -28,43 +31,40 @@ pub struct Tokens<'a> {
 
     /// Whether only blanks stand before it on its line.
     fresh: bool,
-
-    /// The number of the line behind the last.
-    end: u64,
 }
 
 impl<'a> Model for Tokens<'a> {
     ghost use Rattle.std.specs.Prelude.{ℕ, ◌+◌, ◌<◌, ◌^◌, List, length};
+    ghost use Rattle.cg_text.specs.Lines.{end_line};
     ghost use Rattle.cg_verilog_text.specs.Tokens.{Token as TokenSeen, tokens_from};
 
     ghost Value = { List TokenSeen × ℕ };
 
-    ghost view = { λ t. (tokens_from t.end 0 t.fresh t.line t.rest.now, t.end) };
+    ghost view = { λ t. (tokens_from (end_line t.text.now) 0 t.fresh t.line t.rest.now, end_line t.text.now) };
 
-    ghost invariant = { λ t. t.line + length t.rest.now < 2 ^ 64 };
+    ghost invariant = { λ t. (t.line + length t.rest.now < 2 ^ 64) × (length t.text.now < 2 ^ 63) };
 }
 
 impl<'a> Tokens<'a> {
-    /// The tokens of a text, the line behind whose last has this number.
-    pub fn new(text: &'a [u8], end: u64) -> Tokens<'a>
-        requires end { end ≡ end_line text.now }
-        requires few { length text.now < 2 ^ 63 }
+    /// The tokens of a text.
+    pub fn new(text: &'a [u8]) -> Tokens<'a>
+        requires { length text.now < 2 ^ 63 }
         ensures tokens { result.0 ≡ tokens text.entry.now }
-        ensures end { result.1 ≡ end }
+        ensures end { result.1 ≡ end_line text.entry.now }
     {
         Tokens {
+            text,
             rest: text,
             line: 1,
             fresh: true,
-            end,
         }
     }
 
-    /// The number of the line behind the last.
+    /// The number of the line behind the last. The lines are counted for it, which takes time as the text is long.
     pub fn end(&self) -> u64
         ensures { result ≡ self.now.1 }
     {
-        self.end
+        line_behind(self.text)
     }
 
     /// Takes the next token, or nothing where the text ends.
@@ -96,7 +96,7 @@ impl<'a> Tokens<'a> {
                 }
                 Begun::Open => {
                     self.rest = &[];
-                    return Some(Token::new(self.end, Kind::Other, &[]));
+                    return Some(Token::new(line_behind(self.text), Kind::Other, &[]));
                 }
             }
         }
@@ -123,7 +123,7 @@ impl<'a> Tokens<'a> {
 }
 
 /// The number of the line behind the last.
-pub fn line_behind(text: &[u8]) -> u64
+fn line_behind(text: &[u8]) -> u64
     requires { length text.now < 2 ^ 63 }
     ensures { result ≡ end_line text.now }
 {

@@ -1,5 +1,6 @@
 pub mod Drafts
 pub mod Growing
+pub mod Clearing
 pub mod Planned
 pub mod Rounds
 pub mod Naming

@@ -15,6 +15,8 @@ use Rattle.cg_machine.specs.declared.stage.StageKind.TheVariants.{Stable, Unseen
 use Rattle.cg_netlist.specs.declared.fault.AddFault.{AddFault}
 use Rattle.cg_netlist.specs.declared.fault.AddFault.TheVariants.{Limit as LimitFault, NoMemory}
 use Rattle.cg_plan_laws.proofs.AllSafe.{has_cells, plans_safe}
+use Rattle.cg_plan_laws.proofs.ClearedStart.{holds_cleared}
+use Rattle.cg_plan_laws.specs.Cleared.{AllCleared}
 use Rattle.cg_plan_laws.specs.Plan.{Plan, plan_of, rounds, try_all, unless_stopped, wide_of}
 use Rattle.cg_plan_laws.specs.Reported.{IsPlan, PlanMayFail, ReportedPlan}
 use Rattle.cg_plan_laws.specs.declared.settings.Settings.{Settings}
@@ -44,6 +46,11 @@ module _ (settings : Settings) (counts : Option ZeroCounts) (m : MachineData) wh
   -- the hold stages fit the draft of which nothing was tried
   pub holds_fit : (found : HoldFound) (d : Draft) → IsMachine m → IsFound found → IsDraft settings (unbegun m) d → AllFit d.machine found.stages
   holds_fit found d good is begun = subst (λ n. AllFit n found.stages) (sym begun.machine) (subst (AllFit m) (sym is.stages) (hold_fits m good counts settings.width))
+
+  -- and come through their claims there
+  pub holds_clear : (found : HoldFound) (d : Draft) → IsMachine m → IsFound found → IsDraft settings (unbegun m) d → AllCleared d.machine settings.width found.stages
+  holds_clear found d good is begun =
+      subst (λ n. AllCleared n settings.width found.stages) (sym begun.machine) (subst (AllCleared m settings.width) (sym is.stages) (holds_cleared m good counts settings.width is.none))
 
 module _ (library : List CellData) (settings : Settings) (counts : Option ZeroCounts) (m : MachineData) where
   -- the plan, where a claim of the hold list passes the limit and where none does

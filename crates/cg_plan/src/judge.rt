@@ -5,6 +5,7 @@ ghost use Rattle.cg_aig.specs.Aig.{aig_ops};
 ghost use Rattle.cg_claim.specs.Question.{Question, idle_question};
 ghost use Rattle.cg_claim.specs.Violates.{SidesFit};
 ghost use Rattle.cg_machine.specs.Machine.{IsMachine, MachineData};
+ghost use Rattle.cg_plan_laws.specs.Cleared.{IsCleared};
 ghost use Rattle.cg_plan_laws.specs.Plan.{after_outcome};
 ghost use Rattle.cg_plan_laws.specs.StageClaims.{claims_of};
 ghost use Rattle.cg_plan_laws.specs.Reported.{MayFail, TellsOutcome};
@@ -51,6 +52,9 @@ pub(crate) struct Rules<'a> {
 pub(crate) struct Entry<'a> {
     pub number: u32,
     pub stage: &'a Stage,
+
+    /// Whether the stage is known to come through its claims. They are then decided only for their proofs.
+    pub cleared: bool,
 }
 
 /// The claims of a stage on a machine, beside that it can idle, by their names; none may be wider than the width.
@@ -92,6 +96,7 @@ impl Judge {
         into: &mut Vec<Certificate>,
     ) -> Result<Outcome, AddFault>
         requires fits { Fits machine.old entry.now.stage.now }
+        requires cleared { entry.now.cleared ≡ true → IsCleared machine.old rules.now.settings.now.width entry.now.stage.now }
         requires knows { Knows machine.old fanout.old }
         ensures tried { IfOk result (λ outcome. IsTried rules.now.library.now rules.now.settings.now entry.now.number machine.old entry.now.stage.now
             into.old.items outcome machine.new into.new.items) }
@@ -130,6 +135,7 @@ impl Judge {
         into: &mut Vec<Certificate>,
     ) -> Result<Outcome, AddFault>
         requires fits { Fits machine.old entry.now.stage.now }
+        requires cleared { entry.now.cleared ≡ true → IsCleared machine.old rules.now.settings.now.width entry.now.stage.now }
         requires knows { Knows machine.old fanout.old }
         ensures outcome { IfOk result (λ outcome. TellsOutcome machine.old entry.now.stage.now
             (tried rules.now.library.now rules.now.settings.now machine.old entry.now.stage.now) outcome) }
@@ -156,6 +162,7 @@ impl Judge {
         into: &mut Vec<Certificate>,
     ) -> Result<Outcome, AddFault>
         requires fits { Fits machine.old entry.now.stage.now }
+        requires cleared { entry.now.cleared ≡ true → IsCleared machine.old settings.now.width entry.now.stage.now }
         requires knows { Knows machine.old fanout.old }
         ensures outcome { IfOk result (λ outcome. TellsOutcome machine.old entry.now.stage.now
             (by_claims machine.old settings.now.width entry.now.stage.now) outcome) }
@@ -174,7 +181,8 @@ impl Judge {
         Ok(Outcome::Inserted)
     }
 
-    /// How a stage ends by its claims; where it does not, their certificates are put behind `into`.
+    /// How a stage ends by its claims; where it does not, their certificates are put behind `into`. Of a stage that is known to
+    /// come through them no claim is built where no proofs are wanted.
     fn judge_claims(
         &mut self,
         machine: &Machine,
@@ -184,6 +192,7 @@ impl Judge {
         into: &mut Vec<Certificate>,
     ) -> Result<Option<Outcome>, AddFault>
         requires fits { Fits machine.now entry.now.stage.now }
+        requires cleared { entry.now.cleared ≡ true → IsCleared machine.now settings.now.width entry.now.stage.now }
         requires knows { Knows machine.now fanout.old }
         ensures judged { IfOk result
             (IsJudged machine.now entry.now.stage.now (by_claims machine.now settings.now.width entry.now.stage.now)) }
@@ -192,6 +201,9 @@ impl Judge {
         ensures fault { IfErr result (MayFail (by_claims machine.now settings.now.width entry.now.stage.now)) }
         ensures grown { Grow into.old.items into.new.items }
     {
+        if entry.cleared && !settings.proof {
+            return Ok(None);
+        }
         let names = claim_names(self.alloc, machine, fanout, entry.stage)?;
         let sets = StageSets::new(self.alloc, entry.stage)?;
         let claims = Claims {

@@ -1,15 +1,16 @@
 //! The plan of a machine, in the making and whole.
 
-ghost use Rattle.std.specs.Prelude.{◌≡◌, IfOk, IfErr, ◌+◌, length, MatchResult, OnOk};
+ghost use Rattle.std.specs.Prelude.{◌≡◌, IfOk, IfErr, ◌+◌, length, MatchResult, OnOk, true};
 ghost use Rattle.std.specs.Option.{option_copied};
 ghost use Rattle.cg_stage_list_laws.specs.Literals.{FitZeroCounts};
+ghost use Rattle.cg_plan_laws.specs.Cleared.{AllCleared, IsCleared};
 ghost use Rattle.cg_plan_laws.specs.Plan.{plan_of, rounds, try_all, try_one};
 ghost use Rattle.cg_plan_laws.specs.Reported.{IsPlan, PlanMayFail};
 ghost use Rattle.cg_plan_laws.specs.declared.settings.Settings.{Settings};
 ghost use Rattle.cg_plan.specs.Planning.{AreWritable, IsSafePlan, told};
 ghost use Rattle.cg_stage_list_laws.specs.Fit.{AllFit};
 ghost use Rattle.cg_netlist.specs.declared.fault.AddFault.TheVariants.{NoMemory};
-ghost use Rattle.cg_plan.specs.inner.Drafting.{IsDraft, Leads, MayStop, StillFit, all_parts, earlier_by, kept, round_list, unbegun};
+ghost use Rattle.cg_plan.specs.inner.Drafting.{IsDraft, Leads, MayStop, StayCleared, StillFit, all_parts, earlier_by, kept, round_list, unbegun};
 ghost use Rattle.cg_claim_reach.specs.Fanout.{Knows};
 ghost use Rattle.cg_stage_laws.specs.Stages.{Fits};
 
@@ -156,18 +157,20 @@ impl Draft {
         (self.machine, self.stages, Seq::from_vec(self.certificates))
     }
 
-    /// Tries the hold stages, then what the rounds of stability find, and then what those of unobservability find.
+    /// Tries the hold stages, which come through their claims, then what the rounds of stability find, and then what those of
+    /// unobservability find.
     pub fn try_parts(
         &mut self,
         holds: Seq<Stage>,
         rules: &Rules<'_>,
         progress: &mut dyn Progress,
     ) -> Result<(), AddFault>
-        requires { AllFit self.old.machine holds }
+        requires fit { AllFit self.old.machine holds }
+        requires cleared { AllCleared self.old.machine rules.now.settings.now.width holds }
         ensures leads { OnOk result (Leads rules.now.settings.now (all_parts rules.now.library.now rules.now.settings.now holds) self.old self.new) }
         ensures fault { IfErr result (MayStop rules.now.settings.now (all_parts rules.now.library.now rules.now.settings.now holds) self.old) }
     {
-        self.try_all(holds, rules, progress)?;
+        self.try_all(holds, true, rules, progress)?;
         self.rounds(StageKind::Stable, rules, progress)?;
         self.rounds(StageKind::Unseen, rules, progress)
     }
@@ -189,7 +192,7 @@ impl Draft {
             if stages.is_empty() {
                 return Ok(());
             }
-            self.try_all(stages, rules, progress)?;
+            self.try_all(stages, false, rules, progress)?;
         }
         Ok(())
     }
@@ -210,20 +213,23 @@ impl Draft {
         }
     }
 
-    /// Tries stages that fit, one after the other, and tells of each.
+    /// Tries stages that fit, one after the other, and tells of each. Where they are cleared, they are hold stages that come through
+    /// their claims.
     fn try_all(
         &mut self,
         stages: Seq<Stage>,
+        cleared: bool,
         rules: &Rules<'_>,
         progress: &mut dyn Progress,
     ) -> Result<(), AddFault>
-        requires { AllFit self.old.machine stages }
+        requires fit { AllFit self.old.machine stages }
+        requires cleared { cleared ≡ true → AllCleared self.old.machine rules.now.settings.now.width stages }
         ensures leads { OnOk result (Leads rules.now.settings.now (λ p. try_all rules.now.library.now rules.now.settings.now p stages) self.old self.new) }
         ensures fault { IfErr result (MayStop rules.now.settings.now (λ p. try_all rules.now.library.now rules.now.settings.now p stages) self.old) }
     {
         // What reads the nets is found once for all of them, and grown with the machine.
         let mut fanout = Fanout::new(self.alloc);
-        let result = self.try_listed(stages, &mut fanout, rules, progress);
+        let result = self.try_listed(stages, cleared, &mut fanout, rules, progress);
         // By a call, as its parts would else be dropped one by one in the proof of each way out.
         drop(fanout);
         result
@@ -233,11 +239,13 @@ impl Draft {
     fn try_listed(
         &mut self,
         stages: Seq<Stage>,
+        cleared: bool,
         fanout: &mut Fanout,
         rules: &Rules<'_>,
         progress: &mut dyn Progress,
     ) -> Result<(), AddFault>
         requires fits { AllFit self.old.machine stages }
+        requires cleared { cleared ≡ true → AllCleared self.old.machine rules.now.settings.now.width stages }
         requires knows { Knows self.old.machine fanout.old }
         ensures leads { OnOk result (Leads rules.now.settings.now (λ p. try_all rules.now.library.now rules.now.settings.now p stages) self.old self.new) }
         ensures fault { IfErr result (MayStop rules.now.settings.now (λ p. try_all rules.now.library.now rules.now.settings.now p stages) self.old) }
@@ -245,7 +253,7 @@ impl Draft {
         let listed = self.stages.len().saturating_add(stages.len());
         for stage in stages.into_vec() {
             self.tell_next(listed, progress);
-            self.try_one(stage, fanout, rules)?;
+            self.try_one(stage, cleared, fanout, rules)?;
         }
         Ok(())
     }
@@ -259,21 +267,25 @@ impl Draft {
     fn try_one(
         &mut self,
         stage: Stage,
+        cleared: bool,
         fanout: &mut Fanout,
         rules: &Rules<'_>,
     ) -> Result<(), AddFault>
         requires fits { Fits self.old.machine stage }
+        requires cleared { cleared ≡ true → IsCleared self.old.machine rules.now.settings.now.width stage }
         requires knows { Knows self.old.machine fanout.old }
         ensures knows { OnOk result (Knows self.new.machine fanout.new) }
         ensures leads { OnOk result (Leads rules.now.settings.now (λ p. try_one rules.now.library.now rules.now.settings.now p stage) self.old self.new) }
         ensures fault { IfErr result (MayStop rules.now.settings.now (λ p. try_one rules.now.library.now rules.now.settings.now p stage) self.old) }
         ensures rest { OnOk result (StillFit stage self.old.machine self.new.machine) }
+        ensures clear { OnOk result (StayCleared rules.now.settings.now.width stage self.old.machine self.new.machine) }
     {
         let _netlist = self.machine.netlist();
         let number = self.next_number()?;
         let entry = Entry {
             number,
             stage: &stage,
+            cleared,
         };
         let outcome = self.judge.try_stage(
             &mut self.machine,

@@ -42,7 +42,11 @@ pub fn try_stage(
 {
     let mut judge = Judge::new(alloc);
     let mut fanout = Fanout::new(alloc);
-    let entry = Entry { number, stage };
+    let entry = Entry {
+        number,
+        stage,
+        cleared: false,
+    };
     let rules = Rules { library, settings };
     let result = judge.try_stage(machine, &mut fanout, &entry, &rules, into);
     // By calls: their many parts would else be dropped step by step in each goal of this function.

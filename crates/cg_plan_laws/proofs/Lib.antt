@@ -6,3 +6,6 @@ pub mod Deserved
 pub mod AllSafe
 pub mod Examples
 pub mod Telling
+pub mod SameClaims
+pub mod ClearedStart
+pub mod ClearedOn

@@ -4,3 +4,4 @@ pub mod Plan
 pub mod Reported
 pub mod Laws
 pub mod Outcomes
+pub mod Cleared

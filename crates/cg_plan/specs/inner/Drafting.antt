@@ -1,5 +1,5 @@
 -- What ties a plan in the making to the plan that it tells.
-use Rattle.std.specs.Prelude.{◌≡◌, List, [], ◌∷◌, ◌++◌, None}
+use Rattle.std.specs.Prelude.{◌≡◌, ℕ, List, [], ◌∷◌, ◌++◌, None}
 use Rattle.cg_cell.specs.Cell.{CellData}
 use Rattle.cg_stage_list_laws.specs.Fit.{AllFit, AreApart}
 use Rattle.cg_stage_list_laws.specs.StableList.{stable_list}
@@ -8,8 +8,9 @@ use Rattle.cg_machine.specs.Machine.{MachineData}
 use Rattle.cg_machine.specs.declared.stage.Earlier.{Earlier}
 use Rattle.cg_machine.specs.declared.stage.Stage.{Stage}
 use Rattle.cg_machine.specs.declared.stage.StageKind.{StageKind}
-use Rattle.cg_machine.specs.declared.stage.StageKind.TheVariants.{Stable, Unseen}
+use Rattle.cg_machine.specs.declared.stage.StageKind.TheVariants.{Hold, Stable, Unseen}
 use Rattle.cg_netlist.specs.declared.fault.AddFault.{AddFault}
+use Rattle.cg_plan_laws.specs.Cleared.{AllCleared}
 use Rattle.cg_plan_laws.specs.Plan.{Plan, earlier_of, is_inserted, rounds, try_all, unless_stopped}
 use Rattle.cg_plan_laws.specs.Reported.{AreCertified, AreTold, PlanMayFail, kept_claims}
 use Rattle.cg_plan_laws.specs.declared.outcome.Outcome.{Outcome}
@@ -61,6 +62,11 @@ unbegun m = record { machine = m; turns = []; limit = None }
 -- stages that fit m, and have no register of s, fit n
 abbrev pub StillFit : Stage → MachineData → MachineData → Type 0
 StillFit s m n = (stages : List Stage) → AreApart s.regs stages → AllFit m stages → AllFit n stages
+
+-- stages that come through their claims on m, and have no register of the hold stage s, come through them on n
+abbrev pub StayCleared : ℕ → Stage → MachineData → MachineData → Type 0
+StayCleared width s m n = s.kind ≡ Hold → (stages : List Stage) → AreApart s.regs stages → AllFit m stages
+    → AllCleared m width stages → AllCleared n width stages
 
 -- a stage that was tried, as later rounds see it
 abbrev pub earlier_by : Stage → Outcome → Earlier

@@ -3,16 +3,24 @@ use Rattle.std.specs.Option.{option_copied}
 use Rattle.cg_plan_laws.specs.Reported.{IsPlan}
 use Rattle.cg_plan.specs.Planning.{AreWritable, IsSafePlan, told}
 use Rattle.cg_plan.specs.declared.plan.Plan.{Plan}
-use Rattle.cg_plan.proofs.Planned.{hold_fails, hold_found, holds_fit, is_plan, is_safe, plan_fails, whole_draft}
+use Rattle.cg_plan.proofs.Planned.{hold_fails, hold_found, holds_clear, holds_fit, is_plan, is_safe, plan_fails, whole_draft}
 use Rattle.cg_plan.proofs.plan.make_plan.Goals as goal
 
-pub try_parts-result-requires : goal.try_parts-result-requires
-try_parts-result-requires g c =
+pub try_parts-result-requires-clause-fit : goal.try_parts-result-requires-clause-fit
+try_parts-result-requires-clause-fit g c =
     let m = c.args.machine in
     let settings = c.args.settings.now in
     let counts = option_copied c.args.counts in
     let found = c.in-Ok.found in
     holds_fit settings counts m found c.new-draft.result c.netlist-netlist.ensures.machine (hold_found settings counts m found c.in-Ok.ensures.answer) (c.new-draft.ensures settings)
+
+pub try_parts-result-requires-clause-cleared : goal.try_parts-result-requires-clause-cleared
+try_parts-result-requires-clause-cleared g c =
+    let m = c.args.machine in
+    let settings = c.args.settings.now in
+    let counts = option_copied c.args.counts in
+    let found = c.in-Ok.found in
+    holds_clear settings counts m found c.new-draft.result c.netlist-netlist.ensures.machine (hold_found settings counts m found c.in-Ok.ensures.answer) (c.new-draft.ensures settings)
 
 pub returns-in-Err-clause-fault : goal.returns-in-Err-clause-fault
 returns-in-Err-clause-fault g c = hold_fails c.args.library.now c.args.settings.now (option_copied c.args.counts) c.args.machine c.in-Err.fault c.in-Err.ensures.answer

@@ -1,6 +1,7 @@
-use Rattle.std.proofs.Common.{◌≡◌, length}
+use Rattle.std.proofs.Common.{◌≡◌, true, length}
 use Rattle.std.specs.Vec.Iter.{into_iter_items, into_iter_len}
 use Rattle.cg_stage_list_laws.specs.Fit.{AllFit}
+use Rattle.cg_plan_laws.specs.Cleared.{AllCleared}
 use Rattle.cg_plan_laws.specs.Plan.{try_all}
 use Rattle.cg_plan.specs.inner.Drafting.{IsLeft}
 use Rattle.cg_claim_reach.specs.Fanout.{Knows}
@@ -11,5 +12,6 @@ invariant-loop-stage g l = record {
   count : into_iter_len l.stage-iterator ≡ length (into_iter_items l.stage-iterator);
   knows : Knows l.self.machine l.fanout;
   fit : AllFit l.self.machine (into_iter_items l.stage-iterator);
+  cleared : l.cleared ≡ true → AllCleared l.self.machine l.rules.settings.now.width (into_iter_items l.stage-iterator);
   left : IsLeft l.rules.settings.now (λ p. try_all l.rules.library.now l.rules.settings.now p (into_iter_items l.initial.stage-iterator)) (λ p. try_all l.rules.library.now l.rules.settings.now p (into_iter_items l.stage-iterator)) l.initial.self l.self;
 }

@@ -1,7 +1,8 @@
 use Rattle.std.proofs.Common.{refl, sym, ◌∙◌, ap, subst}
 use Rattle.cg_plan_laws.specs.Plan.{try_one}
 use Rattle.cg_plan.specs.declared.plan.Draft.{Draft}
-use Rattle.cg_plan.specs.inner.Drafting.{Leads, StillFit}
+use Rattle.cg_plan.specs.inner.Drafting.{Leads, StayCleared, StillFit}
+use Rattle.cg_plan.proofs.Clearing.{stay_cleared}
 use Rattle.cg_plan.proofs.Growing.{leads_one, still_fit}
 use Rattle.cg_claim_reach.specs.Fanout.{Knows}
 use Rattle.cg_plan.proofs.plan.Draft.try_one.Goals as goal
@@ -23,6 +24,14 @@ returns-clause-rest c =
     let done = c.in_ok-outcome.ensures.tried in
     subst (StillFit c.args.stage m) (sym (ap (λ (d : Draft). d.machine) c.in_ok-keep.ensures ∙ done.machine))
     (still_fit c.args.rules.now.library.now c.args.rules.now.settings.now m c.args.stage c.in_ok-outcome.outcome c.netlist-netlist.ensures.machine c.requires.fits done.outcome.0)
+
+pub returns-clause-clear : goal.returns-clause-clear
+returns-clause-clear c =
+    let m = c.args.self.now.machine in
+    let settings = c.args.rules.now.settings.now in
+    let done = c.in_ok-outcome.ensures.tried in
+    subst (StayCleared settings.width c.args.stage m) (sym (ap (λ (d : Draft). d.machine) c.in_ok-keep.ensures ∙ done.machine))
+    (stay_cleared c.args.rules.now.library.now settings m c.args.stage c.in_ok-outcome.outcome c.netlist-netlist.ensures.machine c.requires.fits done.outcome.0)
 
 pub returns-clause-knows : goal.returns-clause-knows
 returns-clause-knows c = subst (λ (d : Draft). Knows d.machine c.try_stage.new.fanout) (sym c.in_ok-keep.ensures) c.in_ok-outcome.ensures.knows

@@ -92,6 +92,7 @@ impl FlatCells {
     }
 
     /// The bit of the logic cell of this number, which is laid out at this place.
+    #[inline(always)]
     pub(crate) fn evaluate(
         &self,
         netlist: &Netlist,
@@ -130,6 +131,7 @@ fn look_up(laid: FlatCell, inputs: &[NetId], nets: &[bool]) -> bool
 }
 
 /// The bit of a logic cell, by its function itself.
+#[inline(never)]
 fn evaluate_wide(netlist: &Netlist, id: CellId, nets: &[bool], scratch: &mut [bool]) -> bool
     requires netlist { IsNetlist netlist.now }
     requires cell { id < length netlist.now.cells }

@@ -55,7 +55,7 @@ impl FlatCells {
     {
         let mut cells = FlatCells {
             cells: Vec::with_capacity(alloc, order.len())?,
-            inputs: Vec::new(alloc),
+            inputs: Vec::with_capacity(alloc, input_count(netlist, order))?,
         };
         for id in order {
             cells.push(netlist, *id)?;
@@ -117,6 +117,17 @@ impl FlatCells {
         }
         look_up(laid, &self.inputs, nets)
     }
+}
+
+/// How many inputs the logic cells of these numbers have, so that room is made for no more. Only that rests on it.
+fn input_count(netlist: &Netlist, order: &[CellId]) -> usize
+    requires { All (λ k. k < length netlist.now.cells) order.now }
+{
+    let mut count = 0usize;
+    for id in order {
+        count = count.saturating_add(netlist.cell(*id).inputs.len());
+    }
+    count
 }
 
 /// The bit of a logic cell of few inputs, by its table.

@@ -2,6 +2,7 @@ pub mod Added
 pub mod Bits
 pub mod Chained
 pub mod Facts
+pub mod Filled
 pub mod Follows
 pub mod Laid
 pub mod GaterOrder
@@ -9,6 +10,7 @@ pub mod Latched
 pub mod Marked
 pub mod Moved
 pub mod Puts
+pub mod Reading
 pub mod Rows
 pub mod InRuns
 pub mod Stepped
@@ -16,5 +18,4 @@ pub mod Ticked
 pub mod Walk
 pub mod Written
 pub mod Shown
-pub mod Spanned
 pub mod Wired

@@ -55,7 +55,7 @@ impl FlatCells {
     {
         let mut cells = FlatCells {
             cells: Vec::with_capacity(alloc, order.len())?,
-            inputs: Vec::new(alloc),
+            inputs: Vec::with_capacity(alloc, input_count(netlist, order))?,
         };
         for id in order {
             cells.push(netlist, *id)?;
@@ -92,6 +92,7 @@ impl FlatCells {
     }
 
     /// The bit of the logic cell of this number, which is laid out at this place.
+    #[inline(always)]
     pub(crate) fn evaluate(
         &self,
         netlist: &Netlist,
@@ -118,6 +119,17 @@ impl FlatCells {
     }
 }
 
+/// How many inputs the logic cells of these numbers have, so that room is made for no more. Only that rests on it.
+fn input_count(netlist: &Netlist, order: &[CellId]) -> usize
+    requires { All (λ k. k < length netlist.now.cells) order.now }
+{
+    let mut count = 0usize;
+    for id in order {
+        count = count.saturating_add(netlist.cell(*id).inputs.len());
+    }
+    count
+}
+
 /// The bit of a logic cell of few inputs, by its table.
 fn look_up(laid: FlatCell, inputs: &[NetId], nets: &[bool]) -> bool
     requires few { laid.count ≤ 6 }
@@ -130,6 +142,7 @@ fn look_up(laid: FlatCell, inputs: &[NetId], nets: &[bool]) -> bool
 }
 
 /// The bit of a logic cell, by its function itself.
+#[inline(never)]
 fn evaluate_wide(netlist: &Netlist, id: CellId, nets: &[bool], scratch: &mut [bool]) -> bool
     requires netlist { IsNetlist netlist.now }
     requires cell { id < length netlist.now.cells }

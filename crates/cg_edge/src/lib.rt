@@ -11,6 +11,8 @@
 //! - `wire`: registers that take the bit of one net and show it at one net.
 //! - `narrow`: places in 32 bits.
 //! - `marks`: which logic cells are to be looked at.
+//! - `reads`: how often logic cells read a net.
+//! - `filling`: the readers of nets while they are found.
 //! - `readers`: which logic cells read a net.
 //! - `table`: truth tables of logic cells that have few inputs.
 //! - `flat`: the logic cells, laid out for a quick look.
@@ -25,6 +27,7 @@
 #![tactic(auto)]
 
 mod clock_nets;
+mod filling;
 mod flat;
 mod latch_step;
 mod marks;
@@ -33,6 +36,7 @@ mod narrow;
 mod present;
 mod put;
 mod readers;
+mod reads;
 mod register_step;
 mod runs;
 mod schedule;

@@ -1,14 +1,16 @@
 //! Which logic cells read a net.
 
-ghost use Rattle.std.specs.Prelude.{◌≡◌, ◌<◌, ◌++◌, ◌∷◌, ℕ, [], true, length, slice_get, replicate, Some, IfOk, OnOk};
-ghost use Rattle.std.specs.List.{All};
+ghost use Rattle.std.specs.Prelude.{◌≡◌, ◌+◌, ◌<◌, ℕ, true, length, nat_eq, slice_get, Some, IfOk};
+ghost use Rattle.std.specs.List.{All, count_by};
 ghost use Rattle.cg_net.specs.NetSets.{is_in};
 ghost use Rattle.cg_netlist.specs.Nets.{walk_order};
 ghost use Rattle.cg_edge.specs.inner.Keeping.{AreReaders, IsAdded, MarksMore, readers_at, walk_of};
+ghost use Rattle.cg_edge.specs.inner.Reads.{HasRoom};
 
+use crate::filling::Filling;
 use crate::marks::Marks;
 use crate::narrow::narrow;
-use cg_list::Seq;
+use crate::reads::reads;
 use cg_net::id::{CellId, NetId};
 use cg_netlist::netlist::Netlist;
 use std::alloc::{AllocError, Global};
@@ -17,8 +19,8 @@ use std::marker::Model;
 /// Where the readers of a net stand among those of all nets.
 #[derive(Clone, Copy)]
 pub(crate) struct Span {
-    first: u32,
-    count: u32,
+    pub(crate) first: u32,
+    pub(crate) count: u32,
 }
 
 /// For each net the places in walk order of the logic cells that read it.
@@ -26,8 +28,8 @@ pub(crate) struct Span {
 /// They stand in one list, net after net, so that no other place in memory is fetched for a net than for the one before.
 #[derive(Drop)]
 pub(crate) struct Readers {
-    spans: Vec<Span>,
-    places: Vec<u32>,
+    pub(crate) spans: Vec<Span>,
+    pub(crate) places: Vec<u32>,
 }
 
 impl Model for Readers {
@@ -52,24 +54,16 @@ impl Readers {
         requires { order.now ≡ walk_order netlist.now.cells }
         ensures { IfOk result (λ readers. AreReaders (length netlist.now.names) (length order.now) (walk_of netlist.now) readers) }
     {
-        let mut places = no_readers(alloc, netlist.nets() as usize)?;
+        let _nets = netlist.nets();
+        let mut filling = Filling::new(alloc, reads(alloc, netlist, order)?)?;
         for place in 0..order.len() {
-            let narrow_place = narrow(place)?;
-            add(netlist.cell(order[place]).inputs, narrow_place, &mut places)?;
+            add(
+                netlist.cell(order[place]).inputs,
+                narrow(place)?,
+                &mut filling,
+            );
         }
-        join(alloc, &places)
-    }
-
-    /// Puts the readers of one more net behind the others.
-    fn push(&mut self, places: &[u32]) -> Result<(), AllocError>
-        ensures { OnOk result (self.new ≡ self.old ++ places.now ∷ []) }
-    {
-        let first = narrow(self.places.len())?;
-        let count = narrow(places.len())?;
-        let span = Span { first, count };
-        self.places.extend_from_slice(places)?;
-        self.spans.push(span)?;
-        Ok(())
+        Ok(filling.finish())
     }
 
     /// The places of the cells that read a net.
@@ -92,20 +86,6 @@ impl Readers {
     }
 }
 
-/// The readers of nets, of which each has a list of its own here.
-fn join(alloc: Global, lists: &[Seq<u32>]) -> Result<Readers, AllocError>
-    ensures { IfOk result (λ readers. readers ≡ lists.now) }
-{
-    let mut readers = Readers {
-        spans: Vec::with_capacity(alloc, lists.len())?,
-        places: Vec::new(alloc),
-    };
-    for list in lists {
-        readers.push(list.as_slice())?;
-    }
-    Ok(readers)
-}
-
 /// Marks these places.
 fn mark_all(places: &[u32], marks: &mut Marks)
     requires { All (λ p. p < length marks.old) places.now }
@@ -117,24 +97,16 @@ fn mark_all(places: &[u32], marks: &mut Marks)
     }
 }
 
-/// No readers for each of so many nets.
-fn no_readers(alloc: Global, nets: usize) -> Result<Vec<Seq<u32>>, AllocError>
-    ensures { IfOk result (λ places. places.items ≡ replicate nets []) }
-{
-    let mut places = Vec::with_capacity(alloc, nets)?;
-    for net in 0..nets {
-        places.push(Seq::new(alloc))?;
-    }
-    Ok(places)
-}
-
 /// Adds a place to the readers of each of these nets.
-fn add(inputs: &[NetId], place: u32, places: &mut Vec<Seq<u32>>) -> Result<(), AllocError>
-    requires { All (λ net. net < length places.old.items) inputs.now }
-    ensures { OnOk result (IsAdded inputs.now place places.old.items places.new.items) }
+fn add(inputs: &[NetId], place: u32, filling: &mut Filling)
+    requires within { All (λ net. net < length filling.old.lists) inputs.now }
+    requires room { HasRoom filling.old inputs.now }
+    ensures added { IsAdded inputs.now place filling.old.lists filling.new.lists }
+    ensures room { filling.new.room ≡ filling.old.room }
+    ensures more { (x : ℕ) → x < length filling.old.lists
+        → length (readers_at filling.new.lists x) ≡ length (readers_at filling.old.lists x) + count_by (nat_eq x) inputs.now }
 {
     for net in inputs {
-        places[net.number() as usize].push(place)?;
+        filling.push(*net, place);
     }
-    Ok(())
 }

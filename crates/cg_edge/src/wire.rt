@@ -25,7 +25,7 @@ pub(crate) struct Wire {
 pub(crate) fn wires(alloc: Global, netlist: &Netlist) -> Result<Vec<Option<Wire>>, AllocError>
     ensures { IfOk result (λ wires. AreWires netlist.now.registers (length netlist.now.registers) wires.items) }
 {
-    let mut wires = Vec::new(alloc);
+    let mut wires = Vec::with_capacity(alloc, netlist.registers() as usize)?;
     for k in 0..netlist.registers() {
         wires.push(as_wire(netlist, RegId::new(k)))?;
     }

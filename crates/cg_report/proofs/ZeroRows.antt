@@ -1,14 +1,13 @@
 -- The zeros of the rows are counted while they are played.
-use Rattle.std.proofs.Common.{◌≡◌, ℕ, zero, suc, ◌+◌, ◌<◌, ◌≤◌, Bool, true, false, inl, inr, cond, if◌then◌else◌, not, List, []}
-use Rattle.std.proofs.Common.{◌∷◌, ◌++◌, length, replicate, slice_get, slice_set, get_or, Some, refl, sym, ap, ◌∙◌, arith}
+use Rattle.std.proofs.Common.{◌≡◌, ℕ, zero, suc, ◌+◌, ◌<◌, ◌≤◌, Bool, true, false, cond, if◌then◌else◌, not, List, []}
+use Rattle.std.proofs.Common.{◌∷◌, ◌++◌, length, replicate, slice_get, get_or, Some, refl, sym, ap, ◌∙◌, arith}
 use Rattle.std.specs.List.{All}
-use Rattle.std.proofs.lemmas.List.{length-replicate, length-set}
+use Rattle.std.proofs.lemmas.List.{length-replicate}
 use Rattle.std.proofs.lemmas.List.Sums.{count_by-le-length, sum_by-append, sum_by-cons}
-use Rattle.std.proofs.lemmas.Option.{get_or_from_slice_get, same_Some, slice_get-get_or, slice_get_within}
+use Rattle.std.proofs.lemmas.Option.{same_Some, slice_get-get_or, slice_get_within}
 use Rattle.cg_netlist.specs.Circuit.{Circuit}
 use Rattle.cg_netlist.specs.History.{Moment}
 use Rattle.cg_netlist.specs.Moment.{bit}
-use Rattle.cg_net.proofs.TableLemmas.{same_or_not, slice_get-set_other, slice_get-set_same}
 use Rattle.cg_stimulus.specs.Played.{IsPlayed, played_wave}
 use Rattle.cg_report.specs.Zeros.{CountZeros, low_moments, zeros_of}
 use Rattle.cg_report.specs.Place.{IsAt, Place, Plays, Steps}
@@ -18,42 +17,9 @@ use Rattle.cg_report.proofs.RowOn.{behind_all, behind_more, behind_none, low_mom
 pub row_counted : (old between new : Place) (zeros more : List ℕ) → (one : Plays old between) → Plays between new → AreCounted (length zeros) one.now.nets zeros more → PlaysRow old new zeros more
 row_counted old between new zeros more one two counted = record { now = one.now; later = two.now; pair = pair_played old between new one two; counted = counted }
 
--- counting at one place after another
-
+-- before the first place nothing is counted
 pub none_counted : (nets : List Bool) (old : List ℕ) → AreCounted 0 nets old old
 none_counted nets old = record { long = refl; done = λ net n below at. absurd (omega arith); left = λ net past. refl }
-
-pub counted_more : (i : ℕ) (nets : List Bool) (old new after : List ℕ) (v : ℕ) → i < length old → AreCounted i nets old new → slice_get after i ≡ Some v
-    → ((n : ℕ) → slice_get old i ≡ Some n → v ≡ (if bit nets i then n else n + 1)) → length after ≡ length new → ((net : ℕ) → (net ≡ i → ⊥) → slice_get after net ≡ slice_get new net)
-    → AreCounted (i + 1) nets old after
-counted_more i nets old new after v within counted at value long other = record {
-  long = long ∙ counted.long;
-  done = λ net n below was. elim (same_or_not net i) [
-    | inl e ↦ ap (slice_get after) e ∙ (at ∙ (ap Some (value n (ap (slice_get old) (sym e) ∙ was)) ∙ ap (λ k. Some (if bit nets k then n else n + 1)) (sym e)))
-    | inr e ↦ other net e ∙ counted.done net n (omega (arith, e)) was
-  ];
-  left = λ net past. other net (λ e. past (omega (arith, e))) ∙ counted.left net (λ below. past (omega arith));
-}
-
-read_same : (old new : List ℕ) (i : ℕ) → i < length old → slice_get new i ≡ slice_get old i → get_or new i 0 ≡ get_or old i 0
-read_same old new i within same = get_or_from_slice_get new i (get_or old i 0) 0 (same ∙ slice_get-get_or old i 0 within)
-
--- the number at the next place is as it was
-pub next_read : (i : ℕ) (nets : List Bool) (old new : List ℕ) → i < length old → AreCounted i nets old new → get_or new i 0 ≡ get_or old i 0
-next_read i nets old new within counted = read_same old new i within (counted.left i (λ below. let no' : ⊥ = omega (arith, below) in no'))
-
-pub counted_zero : (i : ℕ) (nets : List Bool) (old new : List ℕ) → i < length old → AreCounted i nets old new → bit nets i ≡ false → AreCounted (i + 1) nets old (slice_set new i (get_or new i 0 + 1))
-counted_zero i nets old new within counted low =
-    let here : i < length new = omega (arith, within, counted.long) in
-    counted_more i nets old new (slice_set new i (get_or new i 0 + 1)) (get_or new i 0 + 1) within counted (slice_get-set_same new i (get_or new i 0 + 1) here)
-    (λ n was. ap (λ m. m + 1) (next_read i nets old new within counted ∙ get_or_from_slice_get old i n 0 was) ∙ ap (λ b. if b then n else n + 1) (sym low))
-    (length-set new i (get_or new i 0 + 1)) (λ net other. slice_get-set_other new i net (get_or new i 0 + 1) other)
-
-pub counted_one : (i : ℕ) (nets : List Bool) (old new : List ℕ) → i < length old → AreCounted i nets old new → bit nets i ≡ true → AreCounted (i + 1) nets old new
-counted_one i nets old new within counted one =
-    let here : i < length new = omega (arith, within, counted.long) in
-    counted_more i nets old new new (get_or new i 0) within counted (slice_get-get_or new i 0 here)
-    (λ n was. next_read i nets old new within counted ∙ (get_or_from_slice_get old i n 0 was ∙ ap (λ b. if b then n else n + 1) (sym one))) refl (λ net other. refl)
 
 one_more : (b : Bool) (n : ℕ) → n + (cond (not b) 1 0 + 0) ≡ (if b then n else n + 1)
 one_more true n = omega arith

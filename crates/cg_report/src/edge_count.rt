@@ -1,8 +1,8 @@
 //! The watcher that counts the edges of the registers.
 
 ghost use Rattle.std.specs.Prelude.{◌≡◌};
-ghost use Rattle.std.specs.List.{count_by};
 
+use crate::risen::risen;
 use crate::watcher::Watcher;
 use cg_netlist::netlist::Netlist;
 use cg_text::number::push_number;
@@ -44,7 +44,7 @@ impl Watcher for EdgeCount {
     }
 
     fn moment(&mut self, _clock: bool, _nets: &[bool], rose: &[bool]) -> Result<(), AllocError> {
-        self.rises = self.rises.saturating_add(count(rose) as u64);
+        self.rises = self.rises.saturating_add(risen(rose));
         Ok(())
     }
 
@@ -52,11 +52,4 @@ impl Watcher for EdgeCount {
         out.extend_from_slice(b"edges ")?;
         push_number(out, self.rises)
     }
-}
-
-/// How many of the registers rose.
-fn count(rose: &[bool]) -> usize
-    ensures { result ≡ count_by (λ rose. rose) rose.now }
-{
-    rose.iter().filter(|rose| **rose).count()
 }

@@ -7,6 +7,7 @@
 //!
 //! Modules, as data flows:
 //!
+//! - [`risen`]: how many registers rose at a moment;
 //! - [`player`]: a place in the played history;
 //! - [`rows`]: what is said of the rows, and [`watched_rows`]: the same with the line of a watcher;
 //! - [`edges`]: the edges of the rows alone, or with the line of a watcher;
@@ -20,6 +21,7 @@ pub mod clock_count;
 pub mod edge_count;
 pub mod edges;
 pub mod player;
+mod risen;
 pub mod rows;
 mod showing;
 pub mod toggle_count;

@@ -13,6 +13,7 @@ ghost use Rattle.cg_stimulus.specs.Played.{IsPlayed, played_start, played_wave};
 ghost use Rattle.cg_report.specs.inner.Giving.{Given, MayGive};
 ghost use Rattle.cg_report.specs.Place.{GivesStep, IsAt, MayWatch, Place, Steps};
 
+use crate::risen::risen;
 use crate::watcher::Watcher;
 use cg_edge::simulator::Simulator;
 use cg_net::id::RegId;
@@ -219,5 +220,5 @@ fn play(simulator: &mut Simulator<'_>, clock: bool, inputs: &[bool]) -> u64
     ensures within { result ≤ MOST_REGISTERS }
 {
     simulator.tick(clock, inputs);
-    simulator.rises().iter().filter(|rose| **rose).count() as u64
+    risen(simulator.rises())
 }

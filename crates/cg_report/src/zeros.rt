@@ -59,15 +59,13 @@ fn play_row(player: &mut Player<'_>, zeros: &mut [u32])
     player.step();
 }
 
-/// Counts one more at each net that is 0.
+/// Counts one more at each net that is 0. Each count is written, so that no machine has to guess which ones are.
 fn count_zeros(nets: &[bool], zeros: &mut [u32])
     requires nets { length nets.now ≡ length zeros.old }
     requires room { All (λ n. n < MOST_ROWS) zeros.old }
     ensures { AreCounted (length zeros.old) nets.now zeros.old zeros.new }
 {
     for net in 0..zeros.len() {
-        if !nets[net] {
-            zeros[net] += 1;
-        }
+        zeros[net] += u32::from(!nets[net]);
     }
 }

@@ -12,6 +12,8 @@
 
 mod assumed;
 mod decision;
+mod exhaustive;
+mod lanes;
 mod patterns;
 #[cfg(test)]
 mod tests;

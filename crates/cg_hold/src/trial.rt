@@ -21,9 +21,8 @@ ghost use Rattle.cg_unroll.specs.Holding.{IsHolding, TellsClaim};
 use crate::cone_cycles::ConeCycles;
 use crate::cycles::Cycles;
 use crate::search::{Look, Search};
-use cg_aig::{Aig, AigLit};
 use cg_claim::laws::claim_laws;
-use cg_decide::{Decider, Decision};
+use cg_decide::Decider;
 use cg_machine::cone::ConeFinder;
 use cg_machine::machine::Machine;
 use cg_machine::stage::NetLit;
@@ -152,7 +151,7 @@ impl Trier {
     {
         claim_laws();
         let _netlist = look.search.machine.netlist();
-        let found = violation(&mut self.decider, self.claims.aig(), self.claims.goal())?;
+        let found = self.decider.find(self.claims.aig(), self.claims.goal())?;
         match found {
             Some(bits) => {
                 self.mark_near(look, &bits, marks)?;
@@ -186,11 +185,9 @@ impl Trier {
         // No machine has as many leaves as this width.
         match self.unroller.idle(machine, &[literal], u32::MAX) {
             Ok(()) => {
-                let found = violation(
-                    &mut self.decider,
-                    self.unroller.aig(),
-                    self.unroller.goal(),
-                )?;
+                let found = self
+                    .decider
+                    .find(self.unroller.aig(), self.unroller.goal())?;
                 Ok(found.is_none())
             }
             Err(fault) => Err(wanting(fault)),
@@ -240,27 +237,6 @@ impl Trier {
         self.cycles.take(look, self.claims.leaves(), bits)?;
         mark(look, &self.cycles, marks);
         Ok(())
-    }
-}
-
-/// Bits of the leaves at which a goal is 1, and none where it never is.
-fn violation(
-    decider: &mut Decider,
-    aig: &Aig,
-    goal: AigLit,
-) -> Result<Option<Vec<bool>>, AllocError>
-    requires { IsTrue (aig_ops.is_valid aig.now goal) }
-    ensures never { IfOk result (λ found. found ≡ None → IsNeverOne aig.now goal) }
-    ensures sometimes { IfOk result (λ found. IfSome found (λ bits. IsOneAt aig.now goal bits.items)) }
-{
-    let shown = decider.shows_never(aig, goal)?;
-    if shown {
-        return Ok(None);
-    }
-    let decision = decider.decide(aig, goal)?;
-    match decision {
-        Decision::Never(_, _) => Ok(None),
-        Decision::Sometimes(bits) => Ok(Some(bits)),
     }
 }
 

@@ -1,9 +1,9 @@
 -- Assignments: each list of leaf bits is one, and the words of leaves hold them.
 use Rattle.std.specs.Prelude.{◌≡◌, ◌==◌, ◌<◌, ◌≤◌, ℕ, zero, suc, ◌+◌, ◌-◌, ◌*◌, ◌/◌, ◌%◌, ◌^◌, Bool, true, false, not, ◌&&◌, if◌then◌else◌}
-use Rattle.std.specs.Prelude.{List, [], ◌∷◌, length, slice_index_or, refl, min, nat_lt}
+use Rattle.std.specs.Prelude.{List, [], ◌∷◌, length, slice_index_or, refl, min}
 use Rattle.std.specs.Int.{bit_at, w64}
 use Rattle.std.specs.Int.Bits.{bit_and}
-use Rattle.std.proofs.Common.{◌∙◌, sym, ap, subst, arith}
+use Rattle.std.proofs.Common.{◌∙◌, sym, ap, arith}
 use Rattle.std.proofs.Math.Nat.{pow-suc}
 use Rattle.std.proofs.lemmas.Bool.{eqb-false, eqb-true}
 use Rattle.std.proofs.lemmas.Nat.Bits.{bit_at-lt, bit_at-suc, bit_at-zero, bit_at_and, bit_at_cat_high, bit_at_cat_low, bit_at_lowest, bit_at_not, bit_at_ones}
@@ -44,6 +44,7 @@ assigned_is (b ∷ bits) =
     first : (b : Bool) (n : ℕ) → ((2 * n + (if b then 1 else 0)) % 2 == 1) ≡ b
     first true n = let e : (2 * n + 1) % 2 ≡ 1 = omega arith in rw e refl
     first false n = let e : (2 * n + 0) % 2 ≡ 0 = omega arith in rw e refl
+
     rest : (b : Bool) (n : ℕ) → (2 * n + (if b then 1 else 0)) / 2 ≡ n
     rest true n = omega arith
     rest false n = omega arith

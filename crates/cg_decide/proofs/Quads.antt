@@ -1,18 +1,18 @@
 -- Words of nodes under all assignments: leaves, the and of two literals, inverses; and what all words together say of a goal.
-use Rattle.std.specs.Prelude.{◌≡◌, ◌==◌, ◌<◌, ◌≤◌, ℕ, suc, ◌+◌, ◌-◌, ◌*◌, ◌/◌, ◌%◌, ◌^◌, Bool, true, false, not, ◌&&◌, if◌then◌else◌}
+use Rattle.std.specs.Prelude.{◌≡◌, ◌==◌, ◌<◌, ◌≤◌, ℕ, suc, ◌+◌, ◌-◌, ◌*◌, ◌/◌, ◌%◌, ◌^◌, Bool, true, false, not, ◌&&◌}
 use Rattle.std.specs.Prelude.{List, [], ◌∷◌, ◌++◌, length, nat_lt, slice_index_or, slice_get, Some, IsTrue, refl}
 use Rattle.std.specs.Int.{bit_at}
 use Rattle.std.specs.Int.Bits.{bit_and}
-use Rattle.std.proofs.Common.{◌∙◌, sym, ap, subst, arith, inl, inr, length-append}
+use Rattle.std.proofs.Common.{◌∙◌, sym, ap, subst, arith, length-append}
 use Rattle.std.proofs.lemmas.Bool.{ltb-false, ltb-true}
 use Rattle.std.proofs.lemmas.List.{get_or_append_left}
 use Rattle.std.proofs.lemmas.Nat.Bits.{bit_at-zero}
 use Rattle.std.proofs.lemmas.Option.{get_or_from_slice_get, slice_get-get_or, slice_get_within}
 use Rattle.std.proofs.Math.Seq.{get_or-append_seam}
 use Rattle.cg_cell.specs.Domain.{Seen}
-use Rattle.cg_aig.specs.Aig.{inverse, is_sound, leaf_bits, lit_bit, node_values, values_from}
+use Rattle.cg_aig.specs.Aig.{inverse, is_sound, leaf_bits, lit_bit, node_values}
 use Rattle.cg_aig.specs.AigLaws.{bit_of_zero, node_bit}
-use Rattle.cg_aig.specs.Values.{inverse_even, inverse_odd, leaf_bits_all, lit_even, lit_inverse, lit_odd, values_keep}
+use Rattle.cg_aig.specs.Values.{inverse_even, leaf_bits_all, lit_even, lit_inverse, values_keep}
 use Rattle.cg_decide.specs.Decision.{IsNeverOne}
 use Rattle.cg_decide.specs.declared.lanes.Quad.{Quad}
 use Rattle.cg_decide.specs.inner.Assignments.{AreQuads, IsLeafWord, IsQuad, IsWord, IsZero, IsZeroBelow, LANES, assigned, lane_bit, word_not}
@@ -111,15 +111,19 @@ zero_more s goal number q before is none = λ a below.
   where
     by4 : (a : ℕ) → a < 256 * (number + 1) → 256 * number + 192 ≤ a → lit_bit (node_values s (assigned s.number a)) goal ≡ false
     by4 a below h = zero_lane s goal (4 * number + 3) q.fourth a is.fourth none.fourth (omega arith) (omega arith)
+
     by3 : (a : ℕ) → a < 256 * (number + 1) → 256 * number + 128 ≤ a → (b : Bool) → nat_lt a (256 * number + 192) ≡ b → lit_bit (node_values s (assigned s.number a)) goal ≡ false
     by3 a below h true e = let less = ltb-true a (256 * number + 192) e in zero_lane s goal (4 * number + 2) q.third a is.third none.third (omega arith) (omega arith)
     by3 a below h false e = by4 a below (ltb-false a (256 * number + 192) e)
+
     by2 : (a : ℕ) → a < 256 * (number + 1) → 256 * number + 64 ≤ a → (b : Bool) → nat_lt a (256 * number + 128) ≡ b → lit_bit (node_values s (assigned s.number a)) goal ≡ false
     by2 a below h true e = let less = ltb-true a (256 * number + 128) e in zero_lane s goal (4 * number + 1) q.second a is.second none.second (omega arith) (omega arith)
     by2 a below h false e = by3 a below (ltb-false a (256 * number + 128) e) (nat_lt a (256 * number + 192)) refl
+
     by0 : (a : ℕ) → a < 256 * (number + 1) → 256 * number ≤ a → (b : Bool) → nat_lt a (256 * number + 64) ≡ b → lit_bit (node_values s (assigned s.number a)) goal ≡ false
     by0 a below h true e = let less = ltb-true a (256 * number + 64) e in zero_lane s goal (4 * number) q.first a is.first none.first (omega arith) (omega arith)
     by0 a below h false e = by2 a below (ltb-false a (256 * number + 64) e) (nat_lt a (256 * number + 128)) refl
+
     by1 : (a : ℕ) → a < 256 * (number + 1) → (b : Bool) → nat_lt a (256 * number) ≡ b → lit_bit (node_values s (assigned s.number a)) goal ≡ false
     by1 a below true e = before a (ltb-true a (256 * number) e)
     by1 a below false e = by0 a below (ltb-false a (256 * number) e) (nat_lt a (256 * number + 64)) refl

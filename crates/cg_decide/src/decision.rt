@@ -162,11 +162,7 @@ impl Decider {
     }
 
     // As `find`, by more random bits and then by a search.
-    fn find_by_search(
-        &mut self,
-        aig: &Aig,
-        goal: AigLit,
-    ) -> Result<Option<Vec<bool>>, AllocError>
+    fn find_by_search(&mut self, aig: &Aig, goal: AigLit) -> Result<Option<Vec<bool>>, AllocError>
         requires { IsTrue (aig_ops.is_valid aig.now goal) }
         ensures never { IfOk result (λ found. found ≡ None → IsNeverOne aig.now goal) }
         ensures sometimes { IfOk result (λ found. IfSome found (λ bits. IsOneAt aig.now goal bits.items)) }

@@ -47,7 +47,12 @@ impl Exhaustive {
     }
 
     /// Bits of the leaves of a list, which are of so many quads, at which the goal is 1; none where it never is.
-    pub fn find(&mut self, aig: &Aig, goal: AigLit, count: u64) -> Result<Option<Vec<bool>>, AllocError>
+    pub fn find(
+        &mut self,
+        aig: &Aig,
+        goal: AigLit,
+        count: u64,
+    ) -> Result<Option<Vec<bool>>, AllocError>
         requires goal { IsTrue (aig_ops.is_valid aig.now goal) }
         requires few { count ≤ 4096 }
         requires leaves { aig.now.number ≤ 20 }
@@ -102,7 +107,10 @@ fn node_quad(aig: &Aig, k: u32, quads: &[Quad]) -> Quad
 {
     let _leaves = aig.leaves();
     let (a, b) = aig.pair(k);
-    both(literal_quad(quads, a.number()), literal_quad(quads, b.number()))
+    both(
+        literal_quad(quads, a.number()),
+        literal_quad(quads, b.number()),
+    )
 }
 
 /// The bits of leaves under the assignment of a number.

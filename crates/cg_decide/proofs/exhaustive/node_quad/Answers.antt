@@ -1,4 +1,4 @@
-use Rattle.std.proofs.Common.{◌≡◌, ◌+◌, ℕ, subst, arith}
+use Rattle.std.proofs.Common.{◌+◌, ℕ, subst, arith}
 use Rattle.cg_aig.proofs.Fills.{pair_at}
 use Rattle.cg_decide.specs.inner.Assignments.{IsQuad}
 use Rattle.cg_decide.proofs.exhaustive.node_quad.Goals as goal

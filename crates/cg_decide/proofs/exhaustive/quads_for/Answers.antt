@@ -1,4 +1,4 @@
-use Rattle.std.proofs.Common.{◌≡◌, ◌≤◌, ◌*◌, ◌^◌, ◌-◌, ◌%◌, ℕ, subst, arith}
+use Rattle.std.proofs.Common.{◌≤◌, ◌*◌, ◌^◌, ◌-◌, ◌%◌, ℕ, subst, arith}
 use Rattle.cg_decide.proofs.Assigned.{enough}
 use Rattle.cg_decide.proofs.exhaustive.quads_for.Goals as goal
 

@@ -1,4 +1,4 @@
-use Rattle.std.proofs.Common.{◌+◌, ◌*◌, ℕ, sym, subst}
+use Rattle.std.proofs.Common.{◌+◌, ◌*◌, sym, subst}
 use Rattle.cg_aig.specs.Aig.{inverse}
 use Rattle.cg_decide.specs.inner.Assignments.{IsWord}
 use Rattle.cg_decide.proofs.Quads.{other_is}

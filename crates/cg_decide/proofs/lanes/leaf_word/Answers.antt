@@ -1,4 +1,4 @@
-use Rattle.std.proofs.Common.{◌≡◌, subst, sym, arith}
+use Rattle.std.proofs.Common.{subst, sym, arith}
 use Rattle.cg_decide.specs.inner.Assignments.{IsLeafWord}
 use Rattle.cg_decide.proofs.Assigned.{mask_0, mask_1, mask_2, mask_3, mask_4, mask_5, whole_is}
 use Rattle.cg_decide.proofs.lanes.leaf_word.Goals as goal

@@ -1,4 +1,4 @@
-use Rattle.std.proofs.Common.{◌≡◌, ◌/◌, ◌%◌, ◌*◌, arith}
+use Rattle.std.proofs.Common.{◌/◌, ◌*◌, arith}
 use Rattle.std.proofs.lemmas.Option.{slice_get-get_or}
 use Rattle.cg_decide.proofs.Quads.{inverted_is, plain_is}
 use Rattle.cg_decide.proofs.lanes.literal_quad.Goals as goal

@@ -1,4 +1,4 @@
-use Rattle.std.proofs.Common.{◌≡◌, ◌+◌, ◌*◌, ℕ, sym, subst, arith}
+use Rattle.std.proofs.Common.{◌*◌, sym, subst, arith}
 use Rattle.cg_decide.specs.inner.Assignments.{AreQuads, IsQuad}
 use Rattle.cg_decide.proofs.Quads.{never_is, zero_more}
 use Rattle.cg_decide.proofs.exhaustive.Exhaustive.find.Goals as goal

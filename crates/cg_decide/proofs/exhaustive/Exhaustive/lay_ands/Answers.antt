@@ -1,4 +1,4 @@
-use Rattle.std.proofs.Common.{◌≡◌, ◌++◌, ◌∷◌, ◌+◌, ◌*◌, [], List, ℕ, length, length-append, sym, ap, subst, arith}
+use Rattle.std.proofs.Common.{◌≡◌, ◌∷◌, ◌+◌, ◌*◌, [], List, length, length-append, sym, ap, subst, arith}
 use Rattle.cg_decide.specs.declared.lanes.Quad.{Quad}
 use Rattle.cg_decide.specs.inner.Assignments.{AreQuads, IsQuad}
 use Rattle.cg_decide.proofs.Quads.{quads_push}

@@ -1,13 +1,9 @@
 //! What comes of one literal: some cycle shows that it does not hold the register, which marks tell, or its claims decide.
 
-ghost use Rattle.std.specs.Prelude.{◌≡◌, ◌<◌, ◌∷◌, [], ℕ, None, Some, if◌then◌else◌, IsTrue, IfErr, IfOk, OnOk, length, nat_lt, slice_get, true};
-ghost use Rattle.std.specs.Option.{IfSome};
-ghost use Rattle.cg_aig.specs.Aig.{aig_ops};
+ghost use Rattle.std.specs.Prelude.{◌≡◌, ◌<◌, ◌∷◌, [], ℕ, Some, if◌then◌else◌, IfErr, IfOk, OnOk, length, nat_lt, slice_get, true};
 ghost use Rattle.cg_claim.specs.LeafBits.{is_never};
 ghost use Rattle.cg_claim.specs.Question.{hold_question, idle_question};
 ghost use Rattle.cg_claim_reach.specs.Reached.{IsConeOf};
-ghost use Rattle.cg_cnf.specs.Clauses.{IsOneAt};
-ghost use Rattle.cg_decide.specs.Decision.{IsNeverOne};
 ghost use Rattle.cg_hold.specs.inner.Choosing.{IdleFits, refused_trial, trial_of};
 ghost use Rattle.cg_hold.specs.inner.Cycles.{AreCycles};
 ghost use Rattle.cg_hold.specs.inner.Looking.{AreMarked, IsLook, AreConeCycles};

@@ -6,27 +6,35 @@ use Rattle.std.specs.Int.Bits.{bit_and}
 use Rattle.std.proofs.Common.{◌∙◌, sym, ap, arith}
 use Rattle.std.proofs.Math.Nat.{pow-suc}
 use Rattle.std.proofs.lemmas.Bool.{eqb-false, eqb-true}
-use Rattle.std.proofs.lemmas.Nat.Bits.{bit_at-lt, bit_at-suc, bit_at-zero, bit_at_and, bit_at_cat_high, bit_at_cat_low, bit_at_lowest, bit_at_not, bit_at_ones}
+use Rattle.std.proofs.lemmas.Nat.Bits.{bit_at-lt, bit_at-zero, bit_at_and, bit_at_cat_high, bit_at_cat_low, bit_at_not, bit_at_ones}
 use Rattle.std.proofs.lemmas.Nat.{one_shl, pow-add}
 use Rattle.std.proofs.lemmas.Bool.Decides.{nat_tests}
-use Rattle.cg_decide.specs.inner.Assignments.{IsLeafWord, LANES, WORDS, assigned, lane_bit, word_not}
+use Rattle.cg_decide.specs.inner.Assignments.{IsPlaceWord, LANES, WORDS, assigned, lane_bit, word_not}
 
 -- one bit for each leaf
 pub length-assigned : (leaves number : ℕ) → length (assigned leaves number) ≡ leaves
 length-assigned zero number = refl
-length-assigned (suc leaves) number = ap suc (length-assigned leaves (number / 2))
+length-assigned (suc leaves) number = ap suc (length-assigned leaves number)
 
--- each leaf has the bit of its number
-pub assigned_at : (leaves number leaf : ℕ) → leaf < leaves → slice_index_or (assigned leaves number) leaf false ≡ (bit_at number leaf == 1)
+-- each leaf has a bit of the number
+pub assigned_at : (leaves number leaf : ℕ) → leaf < leaves → slice_index_or (assigned leaves number) leaf false ≡ (bit_at number (leaves - 1 - leaf) == 1)
 assigned_at zero number leaf h = absurd (omega arith)
-assigned_at (suc leaves) number zero h = ap (λ n. n == 1) (sym (bit_at_lowest number))
+assigned_at (suc leaves) number zero h = let e : leaves ≡ suc leaves - 1 - 0 = omega arith in ap (λ n. bit_at number n == 1) e
 assigned_at (suc leaves) number (suc leaf) h =
-    assigned_at leaves (number / 2) leaf (omega arith) ∙ ap (λ n. n == 1) (sym (bit_at-suc number leaf))
+    let e : leaves - 1 - leaf ≡ suc leaves - 1 - suc leaf = omega arith in
+    assigned_at leaves number leaf (omega arith) ∙ ap (λ n. bit_at number n == 1) e
+
+-- higher bits of a number give bits to no leaf
+assigned_low : (leaves place high low : ℕ) → leaves ≤ place → assigned leaves (high * 2 ^ place + low) ≡ assigned leaves low
+assigned_low zero place high low h = refl
+assigned_low (suc leaves) place high low h =
+    ap (λ n. (n == 1) ∷ assigned leaves (high * 2 ^ place + low)) (bit_at_cat_low high place low leaves (omega arith))
+    ∙ ap (λ l. (bit_at low leaves == 1) ∷ l) (assigned_low leaves place high low (omega arith))
 
 -- the number of an assignment
 pub number_of : List Bool → ℕ
 number_of [] = 0
-number_of (b ∷ bits) = 2 * number_of bits + (if b then 1 else 0)
+number_of (b ∷ bits) = (if b then 1 else 0) * 2 ^ length bits + number_of bits
 
 pub number_below : (bits : List Bool) → number_of bits < 2 ^ length bits
 unfolding number_of
@@ -34,20 +42,23 @@ number_below [] = omega arith
 number_below (true ∷ bits) = let e = number_below bits in let f = pow-suc 2 (length bits) in omega arith
 number_below (false ∷ bits) = let e = number_below bits in let f = pow-suc 2 (length bits) in omega arith
 
+first_is : (b : Bool) (place low : ℕ) → low < 2 ^ place → (bit_at ((if b then 1 else 0) * 2 ^ place + low) place == 1) ≡ b
+first_is true place low h =
+    let none : place - place ≡ 0 = omega arith in
+    ap (λ n. n == 1) (bit_at_cat_high 1 place low place h (omega arith) ∙ ap (λ n. bit_at 1 n) none)
+first_is false place low h =
+    let none : place - place ≡ 0 = omega arith in
+    ap (λ n. n == 1) (bit_at_cat_high 0 place low place h (omega arith) ∙ ap (λ n. bit_at 0 n) none)
+
+-- each list of leaf bits is an assignment
 pub assigned_is : (bits : List Bool) → assigned (length bits) (number_of bits) ≡ bits
 unfolding number_of
 assigned_is [] = refl
 assigned_is (b ∷ bits) =
-    ap (λ h. h ∷ assigned (length bits) ((2 * number_of bits + (if b then 1 else 0)) / 2)) (first b (number_of bits))
-    ∙ (ap (λ n. b ∷ assigned (length bits) n) (rest b (number_of bits)) ∙ ap (λ l. b ∷ l) (assigned_is bits))
-  where
-    first : (b : Bool) (n : ℕ) → ((2 * n + (if b then 1 else 0)) % 2 == 1) ≡ b
-    first true n = let e : (2 * n + 1) % 2 ≡ 1 = omega arith in rw e refl
-    first false n = let e : (2 * n + 0) % 2 ≡ 0 = omega arith in rw e refl
-
-    rest : (b : Bool) (n : ℕ) → (2 * n + (if b then 1 else 0)) / 2 ≡ n
-    rest true n = omega arith
-    rest false n = omega arith
+    let place = length bits in
+    let high = if b then 1 else 0 in
+    ap (λ h. h ∷ assigned place (high * 2 ^ place + number_of bits)) (first_is b place (number_of bits) (number_below bits))
+    ∙ (ap (λ l. b ∷ l) (assigned_low place place high (number_of bits) (omega arith)) ∙ ap (λ l. b ∷ l) (assigned_is bits))
 
 -- whether a test holds in the first lanes
 all_lanes : ℕ → (ℕ → Bool) → Bool
@@ -72,34 +83,34 @@ in_lane (suc n) test i h below = by (i == n) refl (in_lane n test i (and_right (
     by false e rest = rest (let f = eqb-false i n e in omega arith)
 
 -- a word whose lanes have this bit of their numbers is that of this leaf, if this bit is one of the six of a lane's number
-mask_is : (leaf word number : ℕ) → leaf < 6 → all_lanes 64 (λ i. bit_at word i == bit_at i leaf) ≡ true → IsLeafWord leaf number word
+mask_is : (leaf word number : ℕ) → leaf < 6 → all_lanes 64 (λ i. bit_at word i == bit_at i leaf) ≡ true → IsPlaceWord leaf number word
 mask_is leaf word number few h = record {
   at = λ i below. ap (λ n. n == 1)
       (eqb-true (bit_at word i) (bit_at i leaf) (in_lane 64 (λ i. bit_at word i == bit_at i leaf) i h below)
       ∙ sym (bit_at_cat_low number 6 i leaf few));
 }
 
-pub mask_0 : (number : ℕ) → IsLeafWord 0 number 0xaaaa_aaaa_aaaa_aaaa
+pub mask_0 : (number : ℕ) → IsPlaceWord 0 number 0xaaaa_aaaa_aaaa_aaaa
 unfolding all_lanes
 mask_0 number = mask_is 0 0xaaaa_aaaa_aaaa_aaaa number (omega arith) refl
 
-pub mask_1 : (number : ℕ) → IsLeafWord 1 number 0xcccc_cccc_cccc_cccc
+pub mask_1 : (number : ℕ) → IsPlaceWord 1 number 0xcccc_cccc_cccc_cccc
 unfolding all_lanes
 mask_1 number = mask_is 1 0xcccc_cccc_cccc_cccc number (omega arith) refl
 
-pub mask_2 : (number : ℕ) → IsLeafWord 2 number 0xf0f0_f0f0_f0f0_f0f0
+pub mask_2 : (number : ℕ) → IsPlaceWord 2 number 0xf0f0_f0f0_f0f0_f0f0
 unfolding all_lanes
 mask_2 number = mask_is 2 0xf0f0_f0f0_f0f0_f0f0 number (omega arith) refl
 
-pub mask_3 : (number : ℕ) → IsLeafWord 3 number 0xff00_ff00_ff00_ff00
+pub mask_3 : (number : ℕ) → IsPlaceWord 3 number 0xff00_ff00_ff00_ff00
 unfolding all_lanes
 mask_3 number = mask_is 3 0xff00_ff00_ff00_ff00 number (omega arith) refl
 
-pub mask_4 : (number : ℕ) → IsLeafWord 4 number 0xffff_0000_ffff_0000
+pub mask_4 : (number : ℕ) → IsPlaceWord 4 number 0xffff_0000_ffff_0000
 unfolding all_lanes
 mask_4 number = mask_is 4 0xffff_0000_ffff_0000 number (omega arith) refl
 
-pub mask_5 : (number : ℕ) → IsLeafWord 5 number 0xffff_ffff_0000_0000
+pub mask_5 : (number : ℕ) → IsPlaceWord 5 number 0xffff_ffff_0000_0000
 unfolding all_lanes
 mask_5 number = mask_is 5 0xffff_ffff_0000_0000 number (omega arith) refl
 
@@ -110,7 +121,7 @@ constant_lane false i below = ap (λ n. n == 1) (bit_at-zero i)
 
 -- the bits of later leaves are the same in all lanes of a word
 pub whole_is : (leaf number word : ℕ) → 6 ≤ leaf →
-    ((i : ℕ) → i < LANES → lane_bit i word ≡ ((number / 2 ^ (leaf - 6)) % 2 == 1)) → IsLeafWord leaf number word
+    ((i : ℕ) → i < LANES → lane_bit i word ≡ ((number / 2 ^ (leaf - 6)) % 2 == 1)) → IsPlaceWord leaf number word
 whole_is leaf number word many all = record {
   at = λ i below. all i below ∙ ap (λ n. n == 1) (sym (bit_at_cat_high number 6 i leaf below many));
 }

@@ -15,7 +15,7 @@ use Rattle.cg_aig.specs.AigLaws.{bit_of_zero, node_bit}
 use Rattle.cg_aig.specs.Values.{inverse_even, leaf_bits_all, lit_even, lit_inverse, values_keep}
 use Rattle.cg_decide.specs.Decision.{IsNeverOne}
 use Rattle.cg_decide.specs.declared.lanes.Quad.{Quad}
-use Rattle.cg_decide.specs.inner.Assignments.{AreQuads, IsLeafWord, IsQuad, IsWord, IsZero, IsZeroBelow, LANES, assigned, lane_bit, word_not}
+use Rattle.cg_decide.specs.inner.Assignments.{AreQuads, IsPlaceWord, IsQuad, IsWord, IsZero, IsZeroBelow, LANES, assigned, lane_bit, word_not}
 use Rattle.cg_decide.proofs.Assigned.{assigned_at, assigned_is, lane_and, lane_not, length-assigned, number_below, number_of}
 
 -- the constant 0
@@ -25,7 +25,7 @@ zero_word s number = record {
 }
 
 -- a leaf
-pub leaf_is : (s : Seen) (leaf number word : ℕ) → leaf < s.number → IsLeafWord leaf number word → IsWord s (2 * (1 + leaf)) number word
+pub leaf_is : (s : Seen) (leaf number word : ℕ) → leaf < s.number → IsPlaceWord (s.number - 1 - leaf) number word → IsWord s (2 * (1 + leaf)) number word
 leaf_is s leaf number word below is = record {
   at = λ i lane.
       let bits = assigned s.number (number * LANES + i) in

@@ -129,9 +129,6 @@ impl Decider {
         if shown {
             return Ok(None);
         }
-        if let Some(bits) = self.draw(aig, goal, ROUNDS - 1)? {
-            return Ok(Some(bits));
-        }
         match quads_for(aig) {
             Some(count) => self.find_among_all(aig, goal, count),
             None => self.find_by_search(aig, goal),
@@ -164,12 +161,15 @@ impl Decider {
         }
     }
 
-    // As `find`, by a search.
+    // As `find`, by more random bits and then by a search.
     fn find_by_search(&mut self, aig: &Aig, goal: AigLit) -> Result<Option<Vec<bool>>, AllocError>
         requires { IsTrue (aig_ops.is_valid aig.now goal) }
         ensures never { IfOk result (λ found. found ≡ None → IsNeverOne aig.now goal) }
         ensures sometimes { IfOk result (λ found. IfSome found (λ bits. IsOneAt aig.now goal bits.items)) }
     {
+        if let Some(bits) = self.draw(aig, goal, ROUNDS - 1)? {
+            return Ok(Some(bits));
+        }
         match self.search(aig, goal)? {
             Decision::Never(_, _) => Ok(None),
             Decision::Sometimes(bits) => Ok(Some(bits)),

@@ -1,4 +1,6 @@
 //! All leaf bits of a list of few leaves, 256 at a time.
+//!
+//! Those of the last leaves change first: these are registers, whose bits tell most claims that do not hold.
 
 ghost use Rattle.std.specs.Prelude.{◌≡◌, ◌≤◌, ◌<◌, ◌+◌, ◌*◌, ◌^◌, ℕ, None, IsTrue, IfOk, OnOk, length};
 ghost use Rattle.std.specs.Option.{IfSome};
@@ -78,8 +80,9 @@ impl Exhaustive {
     {
         self.quads.clear();
         self.quads.push(zero())?;
-        for leaf in 0..aig.leaves() {
-            self.quads.push(leaf_quad(leaf, number))?;
+        let leaves = aig.leaves();
+        for leaf in 0..leaves {
+            self.quads.push(leaf_quad(leaves - 1 - leaf, number))?;
         }
         self.lay_ands(aig, number)
     }
@@ -119,7 +122,7 @@ fn bits_of(alloc: Global, leaves: u32, number: u64) -> Result<Vec<bool>, AllocEr
 {
     let mut bits = Vec::new(alloc);
     for leaf in 0..leaves {
-        bits.push((number >> leaf) % 2 == 1)?;
+        bits.push((number >> (leaves - 1 - leaf)) % 2 == 1)?;
     }
     Ok(bits)
 }

@@ -1,13 +1,13 @@
 //! Words that hold 64 assignments of bits to leaves, each in a lane of its own.
 //!
-//! An assignment has a number, whose bits are those of the leaves. The lanes of a word hold 64 of them in a row, so that a
-//! leaf's word is one of six masks, or has the same bit in all lanes.
+//! An assignment has a number, whose bits are those of the leaves, the last of which has the lowest. The lanes of a word hold 64
+//! of them in a row, so that a leaf's word is one of six masks, or has the same bit in all lanes.
 
-ghost use Rattle.std.specs.Prelude.{◌≡◌, ◌<◌, ◌+◌, ◌*◌, ◌/◌, ◌%◌, ◌^◌, ◌==◌, ℕ, None, Some, IsTrue, length, slice_get};
+ghost use Rattle.std.specs.Prelude.{◌≡◌, ◌<◌, ◌+◌, ◌-◌, ◌*◌, ◌/◌, ◌%◌, ◌^◌, ◌==◌, ℕ, None, Some, IsTrue, length, slice_get};
 ghost use Rattle.std.specs.Option.{IfSome};
 ghost use Rattle.cg_cell.specs.Domain.{Seen};
 ghost use Rattle.cg_aig.specs.Aig.{inverse, is_sound};
-ghost use Rattle.cg_decide.specs.inner.Assignments.{AreQuads, IsLeafWord, IsQuad, IsZero, LANES, lane_bit, word_not};
+ghost use Rattle.cg_decide.specs.inner.Assignments.{AreQuads, IsPlaceWord, IsQuad, IsZero, LANES, lane_bit, word_not};
 
 /// Four words, of assignments in a row.
 #[derive(Clone, Copy)]
@@ -30,33 +30,33 @@ pub(crate) fn zero() -> Quad
     }
 }
 
-/// The words of a leaf among those of a number.
-pub(crate) fn leaf_quad(leaf: u32, number: u64) -> Quad
-    requires leaf { leaf < 32 }
+/// The words of the leaf that has the bit at a place, among those of a number.
+pub(crate) fn leaf_quad(place: u32, number: u64) -> Quad
+    requires place { place < 32 }
     requires number { number < 2 ^ 32 }
-    ensures { (s : Seen) → leaf < s.number → IsQuad s (2 * (1 + leaf)) number result }
+    ensures { (s : Seen) (leaf : ℕ) → leaf < s.number → place ≡ s.number - 1 - leaf → IsQuad s (2 * (1 + leaf)) number result }
 {
     Quad {
-        first: leaf_word(leaf, 4 * number),
-        second: leaf_word(leaf, 4 * number + 1),
-        third: leaf_word(leaf, 4 * number + 2),
-        fourth: leaf_word(leaf, 4 * number + 3),
+        first: place_word(place, 4 * number),
+        second: place_word(place, 4 * number + 1),
+        third: place_word(place, 4 * number + 2),
+        fourth: place_word(place, 4 * number + 3),
     }
 }
 
-/// The word of a leaf under the assignments of a number.
-fn leaf_word(leaf: u32, number: u64) -> u64
-    requires { leaf < 32 }
-    ensures { IsLeafWord leaf number result }
+/// The word of the bits at a place of the assignments of a number.
+fn place_word(place: u32, number: u64) -> u64
+    requires { place < 32 }
+    ensures { IsPlaceWord place number result }
 {
-    match leaf {
+    match place {
         0 => 0xaaaa_aaaa_aaaa_aaaa,
         1 => 0xcccc_cccc_cccc_cccc,
         2 => 0xf0f0_f0f0_f0f0_f0f0,
         3 => 0xff00_ff00_ff00_ff00,
         4 => 0xffff_0000_ffff_0000,
         5 => 0xffff_ffff_0000_0000,
-        _ => same_word(number >> (leaf - 6)),
+        _ => same_word(number >> (place - 6)),
     }
 }
 

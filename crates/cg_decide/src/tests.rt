@@ -178,8 +178,5 @@ fn goals_by_all_leaf_bits(rt: HostRuntime) {
     let mut adder = Aig::new(alloc, 3).expect(&rt, "3 leaves");
     let differ = sums_differ(&mut adder).expect(&rt, "room for the nodes");
     assert_eq!(rt; found(&mut decider, &adder, differ).is_none(), true);
-    assert_eq!(rt;
-        found(&mut decider, &adder, differ.not()).is_none(),
-        false
-    );
+    assert_eq!(rt; found(&mut decider, &adder, differ.not()).is_none(), false);
 }

@@ -20,14 +20,14 @@ lane_bit i word = bit_at word i == 1
 abbrev pub word_not : ℕ → ℕ
 word_not word = bit_not w64 (word % WORDS)
 
--- the leaf bits of an assignment: each leaf has the bit of its number
+-- the leaf bits of an assignment: those of its number, the last leaf having the lowest
 abbrev pub assigned : ℕ → ℕ → List Bool
 assigned zero number = []
-assigned (suc leaves) number = (number % 2 == 1) ∷ assigned leaves (number / 2)
+assigned (suc leaves) number = (bit_at number leaves == 1) ∷ assigned leaves number
 
--- the bits of a leaf, in each lane under the assignment of that lane
-pub record IsLeafWord (leaf number word : ℕ) : Type 0 where
-  pub at : (i : ℕ) → i < LANES → lane_bit i word ≡ (bit_at (number * LANES + i) leaf == 1)
+-- a bit of the assignments' numbers, in each lane that of the assignment of that lane
+pub record IsPlaceWord (place number word : ℕ) : Type 0 where
+  pub at : (i : ℕ) → i < LANES → lane_bit i word ≡ (bit_at (number * LANES + i) place == 1)
 
 -- the bits of a literal, in each lane under the assignment of that lane
 pub record IsWord (s : Seen) (literal number word : ℕ) : Type 0 where

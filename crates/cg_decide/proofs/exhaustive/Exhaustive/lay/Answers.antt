@@ -1,4 +1,4 @@
-use Rattle.std.proofs.Common.{◌≡◌, ◌∷◌, ◌+◌, ◌*◌, [], List, length, length-append, sym, ap, subst, arith}
+use Rattle.std.proofs.Common.{◌≡◌, ◌∷◌, ◌+◌, ◌-◌, ◌*◌, [], List, length, length-append, sym, ap, subst, arith}
 use Rattle.cg_decide.specs.declared.lanes.Quad.{Quad}
 use Rattle.cg_decide.specs.inner.Assignments.{AreQuads, IsQuad}
 use Rattle.cg_decide.proofs.Quads.{quads_none, quads_push}
@@ -33,5 +33,5 @@ loop-leaf-preserved c =
       long = omega (arith, long, more, c.loop-leaf.invariant.long);
       words = subst (AreQuads s number) (sym c.in_ok-push-2.ensures.items)
           (quads_push s number old q c.loop-leaf.invariant.words (subst (λ l. IsQuad s l number q) place
-          (c.leaf_quad.ensures s (omega (arith, c.loop-leaf-test.true, c.leaves-leaf-end.ensures.leaves)))));
+          (c.leaf_quad.ensures s c.loop-leaf.leaf (omega (arith, c.loop-leaf-test.true, c.leaves-leaves.ensures.leaves)) (ap (λ n. n - 1 - c.loop-leaf.leaf) c.leaves-leaves.ensures.leaves))));
     }

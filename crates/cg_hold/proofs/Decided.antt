@@ -15,7 +15,11 @@ use Rattle.cg_claim.specs.Question.{Question}
 use Rattle.cg_claim.specs.Violates.{SidesFit}
 use Rattle.cg_cnf.specs.Clauses.{IsOneAt}
 use Rattle.cg_cell.specs.Domain.{Seen}
-use Rattle.cg_decide.specs.Decision.{IsNeverOne}
+use Rattle.cg_decide.specs.Decision.{IsExact, IsNeverOne}
+use Rattle.cg_decide.specs.declared.decision.Decision.{Decision}
+use Rattle.cg_decide.specs.declared.decision.Decision.TheVariants.{Never, Sometimes}
+use Rattle.cg_formula.specs.declared.formula.Formula.{Formula}
+use Rattle.cg_lrat.specs.declared.log.Log.{Log}
 use Rattle.cg_hold.proofs.ListNumber.{claim_number}
 use Rattle.cg_machine.specs.Machine.{IsMachine, MachineData}
 use Rattle.cg_unroll.specs.Claims.{IsClaim}
@@ -64,3 +68,10 @@ found_there s t g h o same goals is = subst (λ z. IfSome o (λ bits. IsOneAt z 
 
 pub never_there : (s t : Seen) (g h : ℕ) (o : Option (Vec Bool Global)) → s ≡ t → g ≡ h → (o ≡ None → IsNeverOne s g) → o ≡ None → IsNeverOne t h
 never_there s t g h o same goals is none = subst (λ z. IsNeverOne z h) same (subst (λ z. IsNeverOne s z) goals (is none))
+
+-- a decision, as it is told
+pub exactly_never : (s : Seen) (g : ℕ) (d : Decision) (f : Formula) (log : Log) → IsExact s g d → d ≡ Never f log → IsNeverOne s g
+exactly_never s g d f log exact is = subst (IsExact s g) is exact
+
+pub exactly_sometimes : (s : Seen) (g : ℕ) (d : Decision) (bits : Vec Bool Global) → IsExact s g d → d ≡ Sometimes bits → IsOneAt s g bits.items
+exactly_sometimes s g d bits exact is = subst (IsExact s g) is exact

@@ -1,1 +1,3 @@
+pub mod Assigned
 pub mod Following
+pub mod Quads

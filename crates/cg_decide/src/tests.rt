@@ -99,6 +99,16 @@ fn shown(decider: &mut Decider, aig: &Aig, goal: AigLit) -> Option<Vec<bool>> {
     }
 }
 
+fn found(decider: &mut Decider, aig: &Aig, goal: AigLit) -> Option<Vec<bool>> {
+    if !aig.contains(goal) {
+        return None;
+    }
+    match decider.find(aig, goal) {
+        Ok(found) => found,
+        Err(_) => None,
+    }
+}
+
 fn refuted(alloc: Global, decider: &mut Decider, aig: &Aig, goal: AigLit) -> Option<Vec<u8>> {
     if !aig.contains(goal) {
         return None;
@@ -155,4 +165,18 @@ fn goals_for_the_solver(rt: HostRuntime) {
     let first = leaf(&wide, 0).expect(&rt, "the leaf");
     let none = both(&mut wide, all, first.not()).expect(&rt, "room for a node");
     assert_eq!(rt; answer_to(alloc, &mut decider, &wide, none), Answer::Never);
+}
+
+#[test]
+fn goals_by_all_leaf_bits(rt: HostRuntime) {
+    let alloc = rt.alloc();
+    let mut decider = Decider::new(alloc);
+    let mut aig = Aig::new(alloc, 11).expect(&rt, "11 leaves");
+    let all = all_of(&mut aig, 11).expect(&rt, "room for the nodes");
+    let bits = found(&mut decider, &aig, all).expect(&rt, "it is 1 where each leaf is");
+    assert_eq!(rt; bits.as_slice(), [true; 11].as_slice());
+    let mut adder = Aig::new(alloc, 3).expect(&rt, "3 leaves");
+    let differ = sums_differ(&mut adder).expect(&rt, "room for the nodes");
+    assert_eq!(rt; found(&mut decider, &adder, differ).is_none(), true);
+    assert_eq!(rt; found(&mut decider, &adder, differ.not()).is_none(), false);
 }

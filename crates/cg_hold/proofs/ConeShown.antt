@@ -9,11 +9,11 @@ use Rattle.std.proofs.lemmas.List.{length-map}
 use Rattle.std.proofs.lemmas.Option.{none-some, same_Some}
 use Rattle.cg_cell.specs.Gates.{exclusive_or}
 use Rattle.cg_claim.specs.LeafBits.{is_never}
-use Rattle.cg_claim.specs.Question.{hold_question}
+use Rattle.cg_claim.specs.Question.{hold_question, idle_question}
 use Rattle.cg_claim.specs.Reach.{inputs_of_register}
 use Rattle.cg_hold.proofs.Lanes.{lane_or, xor_bit}
 use Rattle.cg_hold.proofs.Layings.{are_inputs, inputs_in, some_are}
-use Rattle.cg_hold.proofs.Shown.{move_shown}
+use Rattle.cg_hold.proofs.Shown.{idle_shown, move_shown}
 use Rattle.cg_hold.specs.inner.Choosing.{IsLiteralOf}
 use Rattle.cg_hold.specs.inner.Laying.{Lays, StartsAt}
 use Rattle.cg_hold.specs.inner.Looking.{AreConeCycles, IsLook}
@@ -93,3 +93,9 @@ module _ (m : MachineData) (good : IsMachine m) (r : ℕ) where
         let parts = and_parts (lane_bit i zeros) (lane_bit i moves) (sym (and_bit zeros moves i) ∙ some.one) in
         let idle : not (literal_bit (bit (vs i)) l) ≡ true = ap not (sym (same_literal i some.below)) ∙ (sym (zeros_are.at i some.below) ∙ parts.0) in
         move_shown m good (lane i are.state) (are.inputs i) (vs i) (length-map are.state (lane_bit i) ∙ are.is_state) (are.are_inputs i) refl l r there idle (sym (are.moves_are.at i some.below) ∙ parts.1)
+
+    pub idle_in_cone : (zeros : ℕ) → IsWord zeros (λ i. not (literal_bit (bit (lane i words)) l)) → HasOne zeros → is_never m (idle_question (l ∷ [])) ≡ false
+    idle_in_cone zeros zeros_are some =
+        let i : ℕ = some.in_lane in
+        let idle : not (literal_bit (bit (vs i)) l) ≡ true = ap not (sym (same_literal i some.below)) ∙ (sym (zeros_are.at i some.below) ∙ some.one) in
+        idle_shown m good (lane i are.state) (are.inputs i) (vs i) (length-map are.state (lane_bit i) ∙ are.is_state) (are.are_inputs i) refl l idle

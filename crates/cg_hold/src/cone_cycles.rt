@@ -3,9 +3,9 @@
 //! They cost as much as the cone, so that there may be many of them: rounds of random bits, and cycles that are near to one in
 //! which a literal was seen not to hold the register. They settle most of the literals that the cycles of the whole machine leave.
 
-ghost use Rattle.std.specs.Prelude.{◌≡◌, ◌<◌, ◌≤◌, ℕ, Some, true, false, length, slice_get, OnOk};
+ghost use Rattle.std.specs.Prelude.{◌≡◌, ◌<◌, ◌≤◌, ◌∷◌, [], ℕ, Some, true, false, length, slice_get, OnOk};
 ghost use Rattle.cg_claim.specs.LeafBits.{is_never};
-ghost use Rattle.cg_claim.specs.Question.{hold_question};
+ghost use Rattle.cg_claim.specs.Question.{hold_question, idle_question};
 ghost use Rattle.cg_hold.specs.inner.Choosing.{IsLiteralOf};
 ghost use Rattle.cg_hold.specs.inner.Laying.{Lays, StartsAt};
 ghost use Rattle.cg_hold.specs.inner.Looking.{AreConeCycles, IsLook};
@@ -91,6 +91,17 @@ impl ConeCycles {
     {
         let _netlist = look.search.machine.netlist();
         has_one(zeros(&self.nets, literal) & self.moves)
+    }
+
+    /// Whether some cycle shows that a literal can be 0.
+    pub fn show_idle(&self, look: &Look<'_>, literal: NetLit) -> bool
+        requires look { IsLook look.now.search.now.machine.now look.now.reg look.now.nets.now look.now.cone.now look.now.literals.now }
+        requires cycles { AreConeCycles look.now.search.now.machine.now look.now.reg self.now.nets.items self.now.moves }
+        requires literal { IsLiteralOf look.now.search.now.machine.now look.now.reg literal }
+        ensures { result ≡ true → is_never look.now.search.now.machine.now (idle_question (literal ∷ [])) ≡ false }
+    {
+        let _netlist = look.search.machine.netlist();
+        has_one(zeros(&self.nets, literal))
     }
 
     /// Makes a word for each net and register of a machine.

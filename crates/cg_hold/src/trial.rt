@@ -1,14 +1,10 @@
 //! What comes of one literal: some cycle shows that it does not hold the register, which marks tell, or its claims decide.
 
-ghost use Rattle.std.specs.Prelude.{◌≡◌, ◌<◌, ◌∷◌, [], ℕ, None, Some, if◌then◌else◌, IsTrue, IfErr, IfOk, OnOk, length, nat_lt, slice_get, true};
-ghost use Rattle.std.specs.Option.{IfSome};
-ghost use Rattle.cg_aig.specs.Aig.{aig_ops};
+ghost use Rattle.std.specs.Prelude.{◌≡◌, ◌<◌, ◌∷◌, [], ℕ, Some, if◌then◌else◌, IfErr, IfOk, OnOk, false, length, nat_lt, slice_get, true};
 ghost use Rattle.cg_claim.specs.LeafBits.{is_never};
 ghost use Rattle.cg_claim.specs.Question.{hold_question, idle_question};
 ghost use Rattle.cg_claim_reach.specs.Reached.{IsConeOf};
-ghost use Rattle.cg_cnf.specs.Clauses.{IsOneAt};
-ghost use Rattle.cg_decide.specs.Decision.{IsNeverOne};
-ghost use Rattle.cg_hold.specs.inner.Choosing.{IdleFits, refused_trial, trial_of};
+ghost use Rattle.cg_hold.specs.inner.Choosing.{IdleFits, IsLiteralOf, refused_trial, trial_of};
 ghost use Rattle.cg_hold.specs.inner.Cycles.{AreCycles};
 ghost use Rattle.cg_hold.specs.inner.Looking.{AreMarked, IsLook, AreConeCycles};
 ghost use Rattle.cg_limit.specs.Answers.{OrNoMemory};
@@ -19,11 +15,9 @@ ghost use Rattle.cg_netlist.specs.declared.fault.AddFault.TheVariants.{NoMemory}
 ghost use Rattle.cg_unroll.specs.Holding.{IsHolding, TellsClaim};
 
 use crate::cone_cycles::ConeCycles;
-use crate::cycles::Cycles;
 use crate::search::{Look, Search};
-use cg_aig::{Aig, AigLit};
 use cg_claim::laws::claim_laws;
-use cg_decide::{Decider, Decision};
+use cg_decide::Decider;
 use cg_machine::cone::ConeFinder;
 use cg_machine::machine::Machine;
 use cg_machine::stage::NetLit;
@@ -63,6 +57,10 @@ pub(crate) struct Trier {
     decider: Decider,
     cones: ConeFinder,
     cycles: ConeCycles,
+
+    /// The literal that a claim showed last to be 0 somewhere, and the bits of the unroller's leaves at which it is.
+    idle: Option<NetLit>,
+    idle_bits: Vec<bool>,
 }
 
 impl Trier {
@@ -75,6 +73,8 @@ impl Trier {
             decider: Decider::new(alloc),
             cones: ConeFinder::new(alloc),
             cycles: ConeCycles::new(alloc),
+            idle: None,
+            idle_bits: Vec::new(alloc),
         }
     }
 
@@ -144,7 +144,7 @@ impl Trier {
         requires look { IsLook look.now.search.now.machine.now look.now.reg look.now.nets.now look.now.cone.now look.now.literals.now }
         requires cycles { AreCycles look.now.search.now.machine.now look.now.search.now.cycles.now.cycles }
         requires marks { AreMarked look.now.search.now.machine.now look.now.reg look.now.literals.now marks.old }
-        requires net { literal.0 < length look.now.search.now.machine.now.circuit.names }
+        requires literal { IsLiteralOf look.now.search.now.machine.now look.now.reg literal }
         requires claim { TellsClaim look.now.search.now.machine.now (hold_question literal look.now.reg) look.now.search.now.width self.old.claims.claim }
         ensures good { IfOk result (λ good. good ≡ serves look.now.search.now.machine.now look.now.reg literal) }
         ensures marks { OnOk result (AreMarked look.now.search.now.machine.now look.now.reg look.now.literals.now marks.new) }
@@ -152,48 +152,93 @@ impl Trier {
     {
         claim_laws();
         let _netlist = look.search.machine.netlist();
-        let found = violation(&mut self.decider, self.claims.aig(), self.claims.goal())?;
+        let found = self.decider.find(self.claims.aig(), self.claims.goal())?;
         match found {
             Some(bits) => {
                 self.mark_near(look, &bits, marks)?;
                 Ok(false)
             }
             None => {
-                let stays = self.is_never_idle(look.search.machine, look.search.cycles, literal)?;
+                let stays = self.is_never_idle(look, literal)?;
                 Ok(!stays)
             }
         }
     }
 
     /// Whether a literal is never 0, where the claim that it can be is within its limit.
-    fn is_never_idle(
+    fn is_never_idle(&mut self, look: &Look<'_>, literal: NetLit) -> Result<bool, AllocError>
+        requires look { IsLook look.now.search.now.machine.now look.now.reg look.now.nets.now look.now.cone.now look.now.literals.now }
+        requires cycles { AreCycles look.now.search.now.machine.now look.now.search.now.cycles.now.cycles }
+        requires literal { IsLiteralOf look.now.search.now.machine.now look.now.reg literal }
+        requires small { IdleFits look.now.search.now.machine.now literal }
+        ensures never { IfOk result (λ never. never ≡ is_never look.now.search.now.machine.now (idle_question (literal ∷ []))) }
+        ensures claims { self.new.claims ≡ self.old.claims }
+    {
+        let machine = look.search.machine;
+        let _netlist = machine.netlist();
+        if look.search.cycles.show_idle(machine, literal) {
+            return Ok(false);
+        }
+        let again = self.is_idle_again(look, literal)?;
+        if again {
+            return Ok(false);
+        }
+        self.is_never_idle_by_claim(machine, literal)
+    }
+
+    /// Whether the literal is the one that a claim showed last to be 0 somewhere, and the bits of then show it in the cone of
+    /// this register, too: registers that one literal holds mostly follow one another.
+    fn is_idle_again(&mut self, look: &Look<'_>, literal: NetLit) -> Result<bool, AllocError>
+        requires look { IsLook look.now.search.now.machine.now look.now.reg look.now.nets.now look.now.cone.now look.now.literals.now }
+        requires literal { IsLiteralOf look.now.search.now.machine.now look.now.reg literal }
+        ensures idle { IfOk result (λ again. again ≡ true → is_never look.now.search.now.machine.now (idle_question (literal ∷ [])) ≡ false) }
+        ensures claims { self.new.claims ≡ self.old.claims }
+    {
+        if !is_same(self.idle, literal) {
+            return Ok(false);
+        }
+        self.cycles
+            .take(look, self.unroller.leaves(), &self.idle_bits)?;
+        Ok(self.cycles.show_idle(look, literal))
+    }
+
+    /// Whether a literal is never 0, by its claim, which is within its limit.
+    fn is_never_idle_by_claim(
         &mut self,
         machine: &Machine,
-        cycles: &Cycles,
         literal: NetLit,
     ) -> Result<bool, AllocError>
         requires net { literal.0 < length machine.now.circuit.names }
-        requires cycles { AreCycles machine.now cycles.now.cycles }
         requires small { IdleFits machine.now literal }
         ensures never { IfOk result (λ never. never ≡ is_never machine.now (idle_question (literal ∷ []))) }
         ensures claims { self.new.claims ≡ self.old.claims }
     {
         claim_laws();
         let _netlist = machine.netlist();
-        if cycles.show_idle(machine, literal) {
-            return Ok(false);
-        }
         // No machine has as many leaves as this width.
         match self.unroller.idle(machine, &[literal], u32::MAX) {
             Ok(()) => {
-                let found = violation(
-                    &mut self.decider,
-                    self.unroller.aig(),
-                    self.unroller.goal(),
-                )?;
-                Ok(found.is_none())
+                let found = self
+                    .decider
+                    .find(self.unroller.aig(), self.unroller.goal())?;
+                let stays = found.is_none();
+                self.note_idle(literal, found);
+                Ok(stays)
             }
             Err(fault) => Err(wanting(fault)),
+        }
+    }
+
+    /// Notes at which bits of its claim a literal is 0, if it is somewhere.
+    fn note_idle(&mut self, literal: NetLit, found: Option<Vec<bool>>)
+        ensures { self.new.claims ≡ self.old.claims }
+    {
+        match found {
+            Some(bits) => {
+                self.idle = Some(literal);
+                self.idle_bits = bits;
+            }
+            None => self.idle = None,
         }
     }
 
@@ -243,24 +288,13 @@ impl Trier {
     }
 }
 
-/// Bits of the leaves at which a goal is 1, and none where it never is.
-fn violation(
-    decider: &mut Decider,
-    aig: &Aig,
-    goal: AigLit,
-) -> Result<Option<Vec<bool>>, AllocError>
-    requires { IsTrue (aig_ops.is_valid aig.now goal) }
-    ensures never { IfOk result (λ found. found ≡ None → IsNeverOne aig.now goal) }
-    ensures sometimes { IfOk result (λ found. IfSome found (λ bits. IsOneAt aig.now goal bits.items)) }
-{
-    let shown = decider.shows_never(aig, goal)?;
-    if shown {
-        return Ok(None);
-    }
-    let decision = decider.decide(aig, goal)?;
-    match decision {
-        Decision::Never(_, _) => Ok(None),
-        Decision::Sometimes(bits) => Ok(Some(bits)),
+/// Whether there is a literal, and it is this one.
+fn is_same(found: Option<NetLit>, literal: NetLit) -> bool {
+    match found {
+        Some(found) => {
+            found.net.number() == literal.net.number() && found.inverted == literal.inverted
+        }
+        None => false,
     }
 }
 

@@ -1,4 +1,4 @@
-use Rattle.std.proofs.Common.{◌≡◌, ◌++◌, ◌∷◌, [], List, ℕ, length, length-append, sym, ap, subst, arith}
+use Rattle.std.proofs.Common.{◌∷◌, [], List, ℕ, length, length-append, sym, ap, subst, arith}
 use Rattle.cg_decide.specs.inner.Assumed.{Agree, IsSameThere}
 use Rattle.cg_decide.proofs.Following.{agree_push}
 use Rattle.cg_decide.proofs.assumed.Follower.follow_all.Goals as goal

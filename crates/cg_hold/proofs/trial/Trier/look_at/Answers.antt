@@ -1,4 +1,4 @@
-use Rattle.std.proofs.Common.{◌≡◌, ◌<◌, Bool, true, false, Some, Result, Ok, inl, refl, length, slice_get, slice_index_or, sym, ◌∙◌, ap, subst, arith}
+use Rattle.std.proofs.Common.{◌≡◌, ◌<◌, Bool, true, false, Some, Result, inl, refl, length, slice_get, slice_index_or, sym, ◌∙◌, ap, subst, arith}
 use Rattle.std.proofs.lemmas.Option.{same_Some, slice_get-get_or, slice_get_read}
 use Rattle.std.proofs.lemmas.Result.{err_from_is_err_and}
 use Rattle.cg_limit.specs.Answers.{OrNoMemory}
@@ -73,8 +73,8 @@ returns-then-marked-2-clause-trial c = λ l at.
     subst (λ (z : Literal). trial_of m w r z ≡ fine Fails) (same_Some k l (sym here ∙ at))
     (trial_fails m r w c.args.self.now.claims c.requires.holding k c.in-Ok.ensures.claim.small (c.requires.marks.moved place k here is))
 
-pub serves-requires-clause-net : goal.serves-requires-clause-net
-serves-requires-clause-net c =
+pub serves-requires-clause-literal : goal.serves-requires-clause-literal
+serves-requires-clause-literal c =
     let look = c.args.look.now in
     let m = look.search.now.machine.now in
     let r = look.reg in
@@ -84,7 +84,7 @@ serves-requires-clause-net c =
     let read = c.index-look-place.result in
     let k = slice_index_or literals place read in
     let here : slice_get literals place ≡ Some k = slice_get_read literals _ place read refl c.requires.place c.index-look-place.is ∙ ap (λ (z : Literal). Some z) c.index-look-place.is in
-    (c.requires.look.literals_of place k here).1
+    c.requires.look.literals_of place k here
 
 pub returns-in_err-good-in-Ok-clause-trial : goal.returns-in_err-good-in-Ok-clause-trial
 returns-in_err-good-in-Ok-clause-trial c = λ l at.

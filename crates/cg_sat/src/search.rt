@@ -211,11 +211,11 @@ fn decide(
     ensures prefix { OnOk result (HasPrefix problem.now.formula.now draft.new.clauses) }
     ensures turn { IfOk result (IsTurn problem.now.formula.now problem.now.count draft.new.clauses trail.old trail.new) }
 {
-    add_units(problem, draft, guide, trues, trail.entries())?;
     match choose(problem, trail, draft.clauses(), guide)? {
         Choice::Done(bits) => Ok(Turn::Satisfied(bits)),
         Choice::Refute(place) => Ok(Turn::Conflict(place)),
         Choice::Decide(lit) => {
+            add_units(problem, draft, guide, trues, trail.entries())?;
             trail.push(Entry { lit, reason: None })?;
             Ok(Turn::Decided)
         }

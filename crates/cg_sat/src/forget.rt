@@ -80,5 +80,6 @@ pub fn forget(
             guide.watches.remove(*place);
         }
     }
-    guide.watches.tighten()
+    guide.watches.tighten();
+    Ok(())
 }

@@ -92,17 +92,17 @@ fn look_at(
     if trail.has_number(watch.blocker as usize) {
         return Ok(Look::Stays(watch.blocker));
     }
-    match watches.turn(trail, watch.clause, off) {
+    match watches.turn(trail, watch.from, off) {
         Turn::Satisfied(other) => Ok(Look::Stays(other)),
         Turn::Moved(other, next) => {
             let moved = Watch {
-                clause: watch.clause,
+                from: watch.from,
                 blocker: other,
             };
             watches.put(next, moved)?;
             Ok(Look::Moved)
         }
-        Turn::Last(last) => look_at_last(trail, clauses, watch.clause as usize, last, count),
+        Turn::Last(last, place) => look_at_last(trail, clauses, place as usize, last, count),
         Turn::Gone => Ok(Look::Moved),
     }
 }

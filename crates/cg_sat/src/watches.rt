@@ -2,7 +2,7 @@
 //!
 //! Nothing of an answer rests on it: a clause that it misses is found where all variables have values.
 
-ghost use Rattle.std.specs.Prelude.{◌<◌, ◌≤◌, length};
+ghost use Rattle.std.specs.Prelude.{◌<◌, ◌≤◌, ◌^◌, length};
 ghost use Rattle.std.specs.Option.{IfSome};
 
 use cg_formula::Lit;
@@ -22,31 +22,17 @@ pub fn lit_of(code: u32) -> Lit {
     }
 }
 
+/// No copy.
+const NOWHERE: u32 = u32::MAX;
+
 /// A clause on the list of a literal.
 #[derive(Clone, Copy)]
 pub struct Watch {
-    /// The place of the clause.
-    pub clause: u32,
+    /// Where its copy stands.
+    pub from: u32,
     /// The number of a literal of it: while it is true the clause need not be looked at.
     pub blocker: u32,
 }
-
-/// Where the literals of a clause stand. The first two are those on whose lists it stands; of a clause that is not watched
-/// nothing stands anywhere.
-#[derive(Clone, Copy)]
-struct Span {
-    from: u32,
-    to: u32,
-    // Where among them a literal that is not false is looked for first.
-    next: u32,
-}
-
-/// Where nothing stands.
-const NOWHERE: Span = Span {
-    from: 0,
-    to: 0,
-    next: 2,
-};
 
 /// What a clause comes to when a literal that it is watched at became false.
 #[derive(Clone, Copy)]
@@ -55,11 +41,15 @@ pub enum Turn {
     Satisfied(u32),
     /// It is watched at the second literal now in place of the false one, and at the first one still.
     Moved(u32, u32),
-    /// All literals but this one are false.
-    Last(u32),
+    /// All literals but this one of the clause at this place are false.
+    Last(u32, u32),
     /// It is watched no more.
     Gone,
 }
+
+/// How many words stand before the literals of a copy: the place of the clause, how many literals there are, none where it
+/// was deleted, and where among them one that is not false is looked for first.
+const HEAD: usize = 3;
 
 /// The first place of a part of a clause with a literal that is not false.
 fn open_place(trail: &Trail, lits: &[u32], from: usize, to: usize) -> Option<usize>
@@ -89,8 +79,9 @@ fn next_place(trail: &Trail, lits: &[u32], next: usize) -> Option<usize>
 }
 
 /// What a clause comes to when one of its first two literals became false. Another one that is not false takes its place.
-fn turn_among(trail: &Trail, lits: &mut [u32], off: u32, next: &mut u32) -> Turn
-    requires { 2 ≤ length lits.old }
+fn turn_among(trail: &Trail, head: &mut [u32], lits: &mut [u32], off: u32) -> Turn
+    requires head { 3 ≤ length head.old }
+    requires lits { 2 ≤ length lits.old }
 {
     if lits[0] == off {
         lits[0] = lits[1];
@@ -100,28 +91,64 @@ fn turn_among(trail: &Trail, lits: &mut [u32], off: u32, next: &mut u32) -> Turn
     if trail.has_number(other as usize) {
         return Turn::Satisfied(other);
     }
-    let Some(at) = next_place(trail, lits, *next as usize) else {
-        return Turn::Last(other);
+    let Some(at) = next_place(trail, lits, head[2] as usize) else {
+        return Turn::Last(other, head[0]);
     };
     let found = lits[at];
     lits[at] = off;
     lits[1] = found;
     if at < u32::MAX as usize {
-        *next = at as u32 + 1;
+        head[2] = at as u32 + 1;
     }
     Turn::Moved(other, found)
 }
 
-/// The lists, by literal, and the clauses, by place.
+/// How many words the copy that begins at this word takes; none where it was deleted.
+fn count_at(words: &[u32], from: u32) -> usize
+    ensures { result < 2 ^ 33 }
+{
+    match words.get(from as usize + 1) {
+        Some(0) | None => 0,
+        Some(count) => *count as usize + HEAD,
+    }
+}
+
+/// Puts the places of a list's clauses where it says where their copies stand.
+fn name_places(list: &mut Vec<Watch>, words: &[u32]) {
+    for watch in list {
+        let is_live = count_at(words, watch.from) > 0;
+        watch.from = match words.get(watch.from as usize) {
+            Some(place) if is_live => *place,
+            _ => NOWHERE,
+        };
+    }
+}
+
+/// Puts there where the copies stand.
+fn name_copies(list: &mut Vec<Watch>, copies: &[u32]) {
+    for watch in list {
+        watch.from = match copies.get(watch.from as usize) {
+            Some(from) => *from,
+            None => NOWHERE,
+        };
+    }
+}
+
+/// The lists, by literal, and copies of the clauses.
 ///
-/// The literals are copies of those of the clauses, as numbers and in an order that changes with what they are watched at,
-/// so that a look at a clause that goes to another list is a look at few words that stand together.
+/// The literals of a copy stand as numbers, behind its head, in an order that changes with what the clause is watched at: so
+/// a look at a clause that goes to another list is a look at few words that stand together.
 #[derive(Drop)]
 pub struct Watches {
     alloc: Global,
     lists: Vec<Vec<Watch>>,
-    lits: Vec<u32>,
-    spans: Vec<Span>,
+    words: Vec<u32>,
+    // By place, where the copy of a clause stands.
+    copies: Vec<u32>,
+    // How many words stand in copies of clauses that were deleted.
+    dead: usize,
+    // How many lists the formula has.
+    count: usize,
 }
 
 impl Watches {
@@ -130,16 +157,20 @@ impl Watches {
         Watches {
             alloc,
             lists: Vec::new(alloc),
-            lits: Vec::new(alloc),
-            spans: Vec::new(alloc),
+            words: Vec::new(alloc),
+            copies: Vec::new(alloc),
+            dead: 0,
+            count: 0,
         }
     }
 
     /// No clause of a formula of so many variables is watched.
     pub fn reset(&mut self, variables: u32) -> Result<(), AllocError> {
-        self.lits.clear();
-        self.spans.clear();
+        self.words.clear();
+        self.copies.clear();
+        self.dead = 0;
         let count = 2 * (variables as usize + 1);
+        self.count = count;
         for list in self.lists.iter_mut().take(count) {
             list.clear();
         }
@@ -151,53 +182,47 @@ impl Watches {
 
     /// The next clause is not watched.
     pub fn pass(&mut self) -> Result<(), AllocError> {
-        self.spans.push(NOWHERE)?;
+        self.copies.push(NOWHERE)?;
         Ok(())
     }
 
     /// The next clause is watched at these two of its literals.
     pub fn add(&mut self, lits: &[Lit], first: Lit, second: Lit) -> Result<(), AllocError> {
-        let place = self.spans.len();
-        let from = self.lits.len();
-        self.copy(lits, first, second)?;
-        let to = self.lits.len();
+        let place = self.copies.len();
+        let from = self.words.len();
         let most = u32::MAX as usize;
-        if place >= most || from > most || to > most {
+        if place >= most || from >= most || lits.len() >= most {
             return self.pass();
         }
-        let clause = place as u32;
-        self.spans.push(Span {
-            from: from as u32,
-            to: to as u32,
-            next: 2,
-        })?;
-        let (first, second) = (code_of(first), code_of(second));
-        self.put(
-            first,
-            Watch {
-                clause,
-                blocker: second,
-            },
-        )?;
-        self.put(
-            second,
-            Watch {
-                clause,
-                blocker: first,
-            },
-        )
+        let from = from as u32;
+        self.words.push(place as u32)?;
+        self.words.push(0)?;
+        self.words.push(2)?;
+        self.copy(lits, first, second)?;
+        self.close_copy(from);
+        self.copies.push(from)?;
+        self.watch_at(from, code_of(first), code_of(second))
     }
 
     /// Copies the literals of a clause, these two in front.
     fn copy(&mut self, lits: &[Lit], first: Lit, second: Lit) -> Result<(), AllocError> {
-        self.lits.push(code_of(first))?;
-        self.lits.push(code_of(second))?;
+        self.words.push(code_of(first))?;
+        self.words.push(code_of(second))?;
         for lit in lits {
             if !lit.is(first) && !lit.is(second) {
-                self.lits.push(code_of(*lit))?;
+                self.words.push(code_of(*lit))?;
             }
         }
         Ok(())
+    }
+
+    /// Writes down how many literals the last copy has.
+    fn close_copy(&mut self, from: u32) {
+        let head = from as usize + 1;
+        let end = self.words.len();
+        if head < end && end - head > HEAD - 1 && end - head <= u32::MAX as usize {
+            self.words[head] = (end - head - (HEAD - 1)) as u32;
+        }
     }
 
     /// Puts a clause on a list.
@@ -211,40 +236,87 @@ impl Watches {
 
     /// The clause at a place was deleted.
     pub fn remove(&mut self, place: usize) {
-        if place < self.spans.len() {
-            self.spans[place] = NOWHERE;
+        if place >= self.copies.len() {
+            return;
+        }
+        let count = count_at(self.words.as_slice(), self.copies[place]);
+        let head = self.copies[place] as usize + 1;
+        if count > 0 && head < self.words.len() {
+            self.words[head] = 0;
+            self.copies[place] = NOWHERE;
+            self.dead = self.dead.saturating_add(count);
         }
     }
 
-    /// Moves the literals together, once clauses were deleted.
-    pub fn tighten(&mut self) -> Result<(), AllocError> {
-        let mut kept = Vec::new(self.alloc);
-        for span in &mut self.spans {
-            let from = kept.len();
-            let Some(lits) = self.lits.get(span.from as usize..span.to as usize) else {
-                continue;
-            };
-            kept.extend_from_slice(lits)?;
-            if kept.len() <= u32::MAX as usize {
-                span.from = from as u32;
-                span.to = kept.len() as u32;
+    /// Moves the copies together, once most words stand in copies of clauses that were deleted.
+    pub fn tighten(&mut self) {
+        if self.dead <= self.words.len() / 2 {
+            return;
+        }
+        self.dead = 0;
+        for list in self.lists.iter_mut().take(self.count) {
+            name_places(list, self.words.as_slice());
+        }
+        self.move_copies();
+        for list in self.lists.iter_mut().take(self.count) {
+            name_copies(list, self.copies.as_slice());
+        }
+    }
+
+    /// Moves the copies together.
+    fn move_copies(&mut self) {
+        let mut to = 0;
+        for copy in &mut self.copies {
+            let from = *copy as usize;
+            let count = count_at(self.words.as_slice(), *copy);
+            if count == 0 || to > from || from + count > self.words.len() {
+                *copy = NOWHERE;
+            } else {
+                self.words
+                    .as_mut_slice()
+                    .copy_within(from..from + count, to);
+                *copy = to as u32;
+                to += count;
             }
         }
-        self.lits = kept;
-        Ok(())
+        self.words.truncate(to);
+    }
+
+    /// Puts a clause on the lists of these two literals.
+    fn watch_at(&mut self, from: u32, first: u32, second: u32) -> Result<(), AllocError> {
+        self.put(
+            first,
+            Watch {
+                from,
+                blocker: second,
+            },
+        )?;
+        self.put(
+            second,
+            Watch {
+                from,
+                blocker: first,
+            },
+        )
     }
 
     /// What a clause comes to when a literal that it is watched at became false.
-    pub fn turn(&mut self, trail: &Trail, clause: u32, off: u32) -> Turn {
-        let Some(span) = self.spans.get_mut(clause as usize) else {
-            return Turn::Gone;
-        };
-        let (from, to) = (span.from as usize, span.to as usize);
-        if to > self.lits.len() || from + 2 > to {
+    pub fn turn(&mut self, trail: &Trail, from: u32, off: u32) -> Turn {
+        let from = from as usize;
+        if from >= self.words.len() {
             return Turn::Gone;
         }
-        let lits = &mut self.lits.as_mut_slice()[from..to];
-        turn_among(trail, lits, off, &mut span.next)
+        let (_, later) = self.words.as_mut_slice().split_at_mut(from);
+        if later.len() < HEAD {
+            return Turn::Gone;
+        }
+        let (head, lits) = later.split_at_mut(HEAD);
+        let count = head[1] as usize;
+        if count < 2 || count > lits.len() {
+            return Turn::Gone;
+        }
+        let (lits, _) = lits.split_at_mut(count);
+        turn_among(trail, head, lits, off)
     }
 
     /// Takes the list of a literal out.

@@ -66,8 +66,8 @@ fn open_place(trail: &Trail, lits: &[u32], from: usize, to: usize) -> Option<usi
 
 /// The place of a literal that is not false behind the first two.
 ///
-/// It is looked for from behind the place where one was found last: those before were false then, and mostly are so still,
-/// and each look from the front would pass over them all (Gent 2013).
+/// It is looked for from where one was found last, whose place the false one took: those before were false then, and mostly
+/// are so still, and each look from the front would pass over them all (Gent 2013).
 fn next_place(trail: &Trail, lits: &[u32], next: usize) -> Option<usize>
     ensures { IfSome result (λ at. at < length lits.now) }
 {
@@ -98,7 +98,7 @@ fn turn_among(trail: &Trail, head: &mut [u32], lits: &mut [u32], off: u32) -> Tu
     lits[at] = off;
     lits[1] = found;
     if at < u32::MAX as usize {
-        head[2] = at as u32 + 1;
+        head[2] = at as u32;
     }
     Turn::Moved(other, found)
 }

@@ -92,12 +92,16 @@ fn look_at(
     if trail.has_number(watch.blocker as usize) {
         return Ok(Look::Stays(watch.blocker));
     }
+    if watch.is_pair {
+        return look_at_last(trail, clauses, watch.from as usize, watch.blocker, count);
+    }
     match watches.turn(trail, watch.from, off) {
         Turn::Satisfied(other) => Ok(Look::Stays(other)),
         Turn::Moved(other, next) => {
             let moved = Watch {
                 from: watch.from,
                 blocker: other,
+                is_pair: false,
             };
             watches.put(next, moved)?;
             Ok(Look::Moved)

@@ -28,10 +28,12 @@ const NOWHERE: u32 = u32::MAX;
 /// A clause on the list of a literal.
 #[derive(Clone, Copy)]
 pub struct Watch {
-    /// Where its copy stands.
+    /// Where its copy stands; of a clause of two literals, which needs none, its place.
     pub from: u32,
     /// The number of a literal of it: while it is true the clause need not be looked at.
     pub blocker: u32,
+    /// Whether the clause has two literals.
+    pub is_pair: bool,
 }
 
 /// What a clause comes to when a literal that it is watched at became false.
@@ -117,20 +119,24 @@ fn count_at(words: &[u32], from: u32) -> usize
 fn name_places(list: &mut Vec<Watch>, words: &[u32]) {
     for watch in list {
         let is_live = count_at(words, watch.from) > 0;
-        watch.from = match words.get(watch.from as usize) {
-            Some(place) if is_live => *place,
-            _ => NOWHERE,
-        };
+        if !watch.is_pair {
+            watch.from = match words.get(watch.from as usize) {
+                Some(place) if is_live => *place,
+                _ => NOWHERE,
+            };
+        }
     }
 }
 
 /// Puts there where the copies stand.
 fn name_copies(list: &mut Vec<Watch>, copies: &[u32]) {
     for watch in list {
-        watch.from = match copies.get(watch.from as usize) {
-            Some(from) => *from,
-            None => NOWHERE,
-        };
+        if !watch.is_pair {
+            watch.from = match copies.get(watch.from as usize) {
+                Some(from) => *from,
+                None => NOWHERE,
+            };
+        }
     }
 }
 
@@ -194,23 +200,26 @@ impl Watches {
         if place >= most || from >= most || lits.len() >= most {
             return self.pass();
         }
+        let (first, second) = (code_of(first), code_of(second));
+        if lits.len() == 2 {
+            self.copies.push(NOWHERE)?;
+            return self.watch_at(place as u32, first, second, true);
+        }
         let from = from as u32;
-        self.words.push(place as u32)?;
-        self.words.push(0)?;
-        self.words.push(2)?;
+        self.words
+            .extend_from_slice(&[place as u32, 0, 2, first, second])?;
         self.copy(lits, first, second)?;
         self.close_copy(from);
         self.copies.push(from)?;
-        self.watch_at(from, code_of(first), code_of(second))
+        self.watch_at(from, first, second, false)
     }
 
-    /// Copies the literals of a clause, these two in front.
-    fn copy(&mut self, lits: &[Lit], first: Lit, second: Lit) -> Result<(), AllocError> {
-        self.words.push(code_of(first))?;
-        self.words.push(code_of(second))?;
+    /// Copies the literals of a clause but these two.
+    fn copy(&mut self, lits: &[Lit], first: u32, second: u32) -> Result<(), AllocError> {
         for lit in lits {
-            if !lit.is(first) && !lit.is(second) {
-                self.words.push(code_of(*lit))?;
+            let code = code_of(*lit);
+            if code != first && code != second {
+                self.words.push(code)?;
             }
         }
         Ok(())
@@ -283,12 +292,19 @@ impl Watches {
     }
 
     /// Puts a clause on the lists of these two literals.
-    fn watch_at(&mut self, from: u32, first: u32, second: u32) -> Result<(), AllocError> {
+    fn watch_at(
+        &mut self,
+        from: u32,
+        first: u32,
+        second: u32,
+        is_pair: bool,
+    ) -> Result<(), AllocError> {
         self.put(
             first,
             Watch {
                 from,
                 blocker: second,
+                is_pair,
             },
         )?;
         self.put(
@@ -296,6 +312,7 @@ impl Watches {
             Watch {
                 from,
                 blocker: first,
+                is_pair,
             },
         )
     }

@@ -9,7 +9,7 @@ ghost use Rattle.cg_sat.specs.inner.Search.{IsSearch, Grows, IsConflict, IsLook}
 
 use crate::guide::Guide;
 use crate::scan::{Found, scan};
-use crate::watches::{Watch, Watches};
+use crate::watches::{Turn, Watch, Watches, code_of, lit_of};
 use cg_formula::Lit;
 use cg_sat_state::clauses::Clauses;
 use cg_sat_state::trail::{Entry, Trail};
@@ -18,8 +18,8 @@ use std::alloc::AllocError;
 /// What comes of a clause on a list.
 #[derive(Clone, Copy)]
 pub enum Look {
-    /// It stays there. While this literal is true it need not be looked at again.
-    Stays(Lit),
+    /// It stays there. While the literal of this number is true it need not be looked at again.
+    Stays(u32),
     /// It went to another list, or was deleted.
     Moved,
     /// It is false.
@@ -48,58 +48,66 @@ pub fn imply(
     Ok(())
 }
 
-/// What the trail makes of the clause of this number. A literal that is not false is looked for first from where one was
-/// found last.
-fn scan_on(trail: &Trail, watches: &mut Watches, clause: &[Lit], number: u32, given: Lit) -> Found
-    ensures { Finds (lits_of trail.now) clause.now given result }
-{
-    match watches.next(trail, clause, number, given) {
-        Some(next) => Found::Another(next),
-        None => scan(trail, clause, given),
-    }
-}
-
-/// Looks at a clause of which a literal became false.
-fn look_at(
+/// Looks at a clause of which all literals but this one seem to be false.
+fn look_at_last(
     trail: &mut Trail,
     clauses: &Clauses,
-    watches: &mut Watches,
-    watch: Watch,
-    lit: Lit,
+    place: usize,
+    code: u32,
     count: usize,
 ) -> Result<Look, AllocError>
     requires { IsSearch count clauses.now trail.old }
     ensures grows { OnOk result (Grows count clauses.now trail.old trail.new) }
     ensures conflict { IfOk result (IsLook clauses.now trail.new) }
 {
-    if trail.has(watch.blocker) {
-        return Ok(Look::Stays(watch.blocker));
-    }
-    let place = watch.clause as usize;
     let Some(clause) = clauses.get(place) else {
         return Ok(Look::Moved);
     };
-    let other = watches.other(watch.clause, lit);
-    if trail.has(other) {
-        return Ok(Look::Stays(other));
+    let last = lit_of(code);
+    match scan(trail, clause, last) {
+        Found::Another(_) => Ok(Look::Stays(code)),
+        Found::One => {
+            if !trail.has(last) && !trail.has(last.inverse()) {
+                imply(trail, clauses, last, place, count)?;
+            }
+            Ok(Look::Stays(code))
+        }
+        Found::Nothing => Ok(Look::Conflict(place)),
     }
-    match scan_on(trail, watches, clause, watch.clause, other) {
-        Found::Another(next) => {
-            watches.set(watch.clause, other, next);
+}
+
+/// Looks at a clause of which the literal of this number became false.
+fn look_at(
+    trail: &mut Trail,
+    clauses: &Clauses,
+    watches: &mut Watches,
+    watch: Watch,
+    off: u32,
+    count: usize,
+) -> Result<Look, AllocError>
+    requires { IsSearch count clauses.now trail.old }
+    ensures grows { OnOk result (Grows count clauses.now trail.old trail.new) }
+    ensures conflict { IfOk result (IsLook clauses.now trail.new) }
+{
+    if trail.has_number(watch.blocker as usize) {
+        return Ok(Look::Stays(watch.blocker));
+    }
+    if watch.is_pair {
+        return look_at_last(trail, clauses, watch.from as usize, watch.blocker, count);
+    }
+    match watches.turn(trail, watch.from, off) {
+        Turn::Satisfied(other) => Ok(Look::Stays(other)),
+        Turn::Moved(other, next) => {
             let moved = Watch {
-                clause: watch.clause,
+                from: watch.from,
                 blocker: other,
+                is_pair: false,
             };
             watches.put(next, moved)?;
             Ok(Look::Moved)
         }
-        Found::One => {
-            if !trail.has(other.inverse()) {
-                imply(trail, clauses, other, place, count)?;
-            }
-            Ok(Look::Stays(other))
-        }
-        Found::Nothing => Ok(Look::Conflict(place)),
+        Turn::Last(last, place) => look_at_last(trail, clauses, place as usize, last, count),
+        Turn::Gone => Ok(Look::Moved),
     }
 }
 
@@ -109,7 +117,7 @@ fn look_along(
     clauses: &Clauses,
     watches: &mut Watches,
     list: &mut Vec<Watch>,
-    lit: Lit,
+    off: u32,
     count: usize,
 ) -> Result<Option<usize>, AllocError>
     requires { IsSearch count clauses.now trail.old }
@@ -119,7 +127,7 @@ fn look_along(
     let mut at = 0;
     'list: while at < list.len() {
         let watch = list[at];
-        match look_at(trail, clauses, watches, watch, lit, count)? {
+        match look_at(trail, clauses, watches, watch, off, count)? {
             Look::Stays(blocker) => {
                 list[at].blocker = blocker;
                 at += 1;
@@ -145,11 +153,11 @@ pub fn propagate(
     ensures conflict { IfOk result (λ found. IfSome found (IsConflict clauses.now trail.new)) }
 {
     'queue: while guide.taken < trail.len() {
-        let lit = trail.entries()[guide.taken].lit.inverse();
+        let off = code_of(trail.entries()[guide.taken].lit) ^ 1;
         guide.taken += 1;
-        let mut list = guide.watches.open(lit);
-        let found = look_along(trail, clauses, &mut guide.watches, &mut list, lit, count)?;
-        guide.watches.close(lit, list);
+        let mut list = guide.watches.open(off);
+        let found = look_along(trail, clauses, &mut guide.watches, &mut list, off, count)?;
+        guide.watches.close(off, list);
         if found.is_some() {
             return Ok(found);
         }

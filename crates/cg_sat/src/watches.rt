@@ -2,51 +2,159 @@
 //!
 //! Nothing of an answer rests on it: a clause that it misses is found where all variables have values.
 
-ghost use Rattle.std.specs.Prelude.{◌≤◌, length};
+ghost use Rattle.std.specs.Prelude.{◌<◌, ◌≤◌, ◌^◌, length};
+ghost use Rattle.std.specs.Option.{IfSome};
 
 use cg_formula::Lit;
 use cg_sat_state::trail::Trail;
 use std::alloc::{AllocError, Global};
 
+/// The number of a literal, in which its inverse has the other last bit.
+pub fn code_of(lit: Lit) -> u32 {
+    lit.variable.wrapping_mul(2) | u32::from(lit.inverted)
+}
+
+/// The literal of a number.
+pub fn lit_of(code: u32) -> Lit {
+    Lit {
+        variable: code / 2,
+        inverted: code % 2 == 1,
+    }
+}
+
+/// No copy.
+const NOWHERE: u32 = u32::MAX;
+
 /// A clause on the list of a literal.
 #[derive(Clone, Copy)]
 pub struct Watch {
-    /// The place of the clause.
-    pub clause: u32,
-    /// A literal of it: while it is true the clause need not be looked at.
-    pub blocker: Lit,
+    /// Where its copy stands; of a clause of two literals, which needs none, its place.
+    pub from: u32,
+    /// The number of a literal of it: while it is true the clause need not be looked at.
+    pub blocker: u32,
+    /// Whether the clause has two literals.
+    pub is_pair: bool,
 }
 
-/// The two literals on whose lists a clause stands.
+/// What a clause comes to when a literal that it is watched at became false.
 #[derive(Clone, Copy)]
-pub struct Pair {
-    /// One of them.
-    pub first: Lit,
-    /// The other one.
-    pub second: Lit,
-    /// Where in the clause a literal that is not false was found last.
-    pub from: usize,
+pub enum Turn {
+    /// The literal of this number is true.
+    Satisfied(u32),
+    /// It is watched at the second literal now in place of the false one, and at the first one still.
+    Moved(u32, u32),
+    /// All literals but this one of the clause at this place are false.
+    Last(u32, u32),
+    /// It is watched no more.
+    Gone,
 }
 
-/// The first place of a part of a clause with a literal that is not false, beside the given one.
-fn open_place(trail: &Trail, lits: &[Lit], given: Lit, from: usize, to: usize) -> Option<usize>
+/// How many words stand before the literals of a copy: the place of the clause, how many literals there are, none where it
+/// was deleted, and where among them one that is not false is looked for first.
+const HEAD: usize = 3;
+
+/// The first place of a part of a clause with a literal that is not false.
+fn open_place(trail: &Trail, lits: &[u32], from: usize, to: usize) -> Option<usize>
     requires { to ≤ length lits.now }
+    ensures { IfSome result (λ at. at < to) }
 {
     for at in from..to {
-        let lit = lits[at];
-        if !trail.has(lit.inverse()) && !lit.is(given) {
+        if !trail.has_number((lits[at] ^ 1) as usize) {
             return Some(at);
         }
     }
     None
 }
 
-/// The lists, by literal, and the pairs, by clause.
+/// The place of a literal that is not false behind the first two.
+///
+/// It is looked for from where one was found last, whose place the false one took: those before were false then, and mostly
+/// are so still, and each look from the front would pass over them all (Gent 2013).
+fn next_place(trail: &Trail, lits: &[u32], next: usize) -> Option<usize>
+    ensures { IfSome result (λ at. at < length lits.now) }
+{
+    let from = next.min(lits.len());
+    match open_place(trail, lits, from, lits.len()) {
+        Some(at) => Some(at),
+        None => open_place(trail, lits, 2, from),
+    }
+}
+
+/// What a clause comes to when one of its first two literals became false. Another one that is not false takes its place.
+fn turn_among(trail: &Trail, head: &mut [u32], lits: &mut [u32], off: u32) -> Turn
+    requires head { 3 ≤ length head.old }
+    requires lits { 2 ≤ length lits.old }
+{
+    if lits[0] == off {
+        lits[0] = lits[1];
+        lits[1] = off;
+    }
+    let other = lits[0];
+    if trail.has_number(other as usize) {
+        return Turn::Satisfied(other);
+    }
+    let Some(at) = next_place(trail, lits, head[2] as usize) else {
+        return Turn::Last(other, head[0]);
+    };
+    let found = lits[at];
+    lits[at] = off;
+    lits[1] = found;
+    if at < u32::MAX as usize {
+        head[2] = at as u32;
+    }
+    Turn::Moved(other, found)
+}
+
+/// How many words the copy that begins at this word takes; none where it was deleted.
+fn count_at(words: &[u32], from: u32) -> usize
+    ensures { result < 2 ^ 33 }
+{
+    match words.get(from as usize + 1) {
+        Some(0) | None => 0,
+        Some(count) => *count as usize + HEAD,
+    }
+}
+
+/// Puts the places of a list's clauses where it says where their copies stand.
+fn name_places(list: &mut Vec<Watch>, words: &[u32]) {
+    for watch in list {
+        let is_live = count_at(words, watch.from) > 0;
+        if !watch.is_pair {
+            watch.from = match words.get(watch.from as usize) {
+                Some(place) if is_live => *place,
+                _ => NOWHERE,
+            };
+        }
+    }
+}
+
+/// Puts there where the copies stand.
+fn name_copies(list: &mut Vec<Watch>, copies: &[u32]) {
+    for watch in list {
+        if !watch.is_pair {
+            watch.from = match copies.get(watch.from as usize) {
+                Some(from) => *from,
+                None => NOWHERE,
+            };
+        }
+    }
+}
+
+/// The lists, by literal, and copies of the clauses.
+///
+/// The literals of a copy stand as numbers, behind its head, in an order that changes with what the clause is watched at: so
+/// a look at a clause that goes to another list is a look at few words that stand together.
 #[derive(Drop)]
 pub struct Watches {
     alloc: Global,
     lists: Vec<Vec<Watch>>,
-    pairs: Vec<Pair>,
+    words: Vec<u32>,
+    // By place, where the copy of a clause stands.
+    copies: Vec<u32>,
+    // How many words stand in copies of clauses that were deleted.
+    dead: usize,
+    // How many lists the formula has.
+    count: usize,
 }
 
 impl Watches {
@@ -55,14 +163,20 @@ impl Watches {
         Watches {
             alloc,
             lists: Vec::new(alloc),
-            pairs: Vec::new(alloc),
+            words: Vec::new(alloc),
+            copies: Vec::new(alloc),
+            dead: 0,
+            count: 0,
         }
     }
 
     /// No clause of a formula of so many variables is watched.
     pub fn reset(&mut self, variables: u32) -> Result<(), AllocError> {
-        self.pairs.clear();
+        self.words.clear();
+        self.copies.clear();
+        self.dead = 0;
         let count = 2 * (variables as usize + 1);
+        self.count = count;
         for list in self.lists.iter_mut().take(count) {
             list.clear();
         }
@@ -73,89 +187,158 @@ impl Watches {
     }
 
     /// The next clause is not watched.
-    pub fn pass(&mut self, lit: Lit) -> Result<(), AllocError> {
-        self.pairs.push(Pair {
-            first: lit,
-            second: lit,
-            from: 0,
-        })?;
+    pub fn pass(&mut self) -> Result<(), AllocError> {
+        self.copies.push(NOWHERE)?;
         Ok(())
     }
 
-    /// The next clause is watched at these literals.
-    pub fn add(&mut self, first: Lit, second: Lit) -> Result<(), AllocError> {
-        let clause = self.pairs.len();
-        if clause < u32::MAX as usize {
-            self.put(
-                first,
-                Watch {
-                    clause: clause as u32,
-                    blocker: second,
-                },
-            )?;
-            self.put(
-                second,
-                Watch {
-                    clause: clause as u32,
-                    blocker: first,
-                },
-            )?;
+    /// The next clause is watched at these two of its literals.
+    pub fn add(&mut self, lits: &[Lit], first: Lit, second: Lit) -> Result<(), AllocError> {
+        let place = self.copies.len();
+        let from = self.words.len();
+        let most = u32::MAX as usize;
+        if place >= most || from >= most || lits.len() >= most {
+            return self.pass();
         }
-        self.pairs.push(Pair {
-            first,
-            second,
-            from: 0,
-        })?;
+        let (first, second) = (code_of(first), code_of(second));
+        if lits.len() == 2 {
+            self.copies.push(NOWHERE)?;
+            return self.watch_at(place as u32, first, second, true);
+        }
+        let from = from as u32;
+        self.words
+            .extend_from_slice(&[place as u32, 0, 2, first, second])?;
+        self.copy(lits, first, second)?;
+        self.close_copy(from);
+        self.copies.push(from)?;
+        self.watch_at(from, first, second, false)
+    }
+
+    /// Copies the literals of a clause but these two.
+    fn copy(&mut self, lits: &[Lit], first: u32, second: u32) -> Result<(), AllocError> {
+        for lit in lits {
+            let code = code_of(*lit);
+            if code != first && code != second {
+                self.words.push(code)?;
+            }
+        }
         Ok(())
+    }
+
+    /// Writes down how many literals the last copy has.
+    fn close_copy(&mut self, from: u32) {
+        let head = from as usize + 1;
+        let end = self.words.len();
+        if head < end && end - head > HEAD - 1 && end - head <= u32::MAX as usize {
+            self.words[head] = (end - head - (HEAD - 1)) as u32;
+        }
     }
 
     /// Puts a clause on a list.
-    pub fn put(&mut self, lit: Lit, watch: Watch) -> Result<(), AllocError> {
-        let index = lit.number();
+    pub fn put(&mut self, lit: u32, watch: Watch) -> Result<(), AllocError> {
+        let index = lit as usize;
         if index < self.lists.len() {
             self.lists[index].push(watch)?;
         }
         Ok(())
     }
 
-    /// The other literal at which the clause is watched.
-    pub fn other(&self, clause: u32, lit: Lit) -> Lit {
-        match self.pairs.get(clause as usize) {
-            Some(pair) if pair.first == lit => pair.second,
-            Some(pair) => pair.first,
-            None => lit,
+    /// The clause at a place was deleted.
+    pub fn remove(&mut self, place: usize) {
+        if place >= self.copies.len() {
+            return;
+        }
+        let count = count_at(self.words.as_slice(), self.copies[place]);
+        let head = self.copies[place] as usize + 1;
+        if count > 0 && head < self.words.len() {
+            self.words[head] = 0;
+            self.copies[place] = NOWHERE;
+            self.dead = self.dead.saturating_add(count);
         }
     }
 
-    /// The clause is watched at these.
-    pub fn set(&mut self, clause: u32, first: Lit, second: Lit) {
-        let index = clause as usize;
-        if index < self.pairs.len() {
-            self.pairs[index].first = first;
-            self.pairs[index].second = second;
+    /// Moves the copies together, once most words stand in copies of clauses that were deleted.
+    pub fn tighten(&mut self) {
+        if self.dead <= self.words.len() / 2 {
+            return;
+        }
+        self.dead = 0;
+        for list in self.lists.iter_mut().take(self.count) {
+            name_places(list, self.words.as_slice());
+        }
+        self.move_copies();
+        for list in self.lists.iter_mut().take(self.count) {
+            name_copies(list, self.copies.as_slice());
         }
     }
 
-    /// A literal of the clause that is not false, beside the given one.
-    ///
-    /// It is looked for from where one was found last: those before were false then, and mostly are so still, and each
-    /// look from the front would pass over them all (Gent 2013).
-    pub fn next(&mut self, trail: &Trail, lits: &[Lit], clause: u32, given: Lit) -> Option<Lit> {
-        let index = clause as usize;
-        let from = self.pairs.get(index)?.from.min(lits.len());
-        let at = match open_place(trail, lits, given, from, lits.len()) {
-            Some(at) => at,
-            None => open_place(trail, lits, given, 0, from)?,
-        };
-        if index < self.pairs.len() {
-            self.pairs[index].from = at;
+    /// Moves the copies together.
+    fn move_copies(&mut self) {
+        let mut to = 0;
+        for copy in &mut self.copies {
+            let from = *copy as usize;
+            let count = count_at(self.words.as_slice(), *copy);
+            if count == 0 || to > from || from + count > self.words.len() {
+                *copy = NOWHERE;
+            } else {
+                self.words
+                    .as_mut_slice()
+                    .copy_within(from..from + count, to);
+                *copy = to as u32;
+                to += count;
+            }
         }
-        lits.get(at).copied()
+        self.words.truncate(to);
+    }
+
+    /// Puts a clause on the lists of these two literals.
+    fn watch_at(
+        &mut self,
+        from: u32,
+        first: u32,
+        second: u32,
+        is_pair: bool,
+    ) -> Result<(), AllocError> {
+        self.put(
+            first,
+            Watch {
+                from,
+                blocker: second,
+                is_pair,
+            },
+        )?;
+        self.put(
+            second,
+            Watch {
+                from,
+                blocker: first,
+                is_pair,
+            },
+        )
+    }
+
+    /// What a clause comes to when a literal that it is watched at became false.
+    pub fn turn(&mut self, trail: &Trail, from: u32, off: u32) -> Turn {
+        let from = from as usize;
+        if from >= self.words.len() {
+            return Turn::Gone;
+        }
+        let (_, later) = self.words.as_mut_slice().split_at_mut(from);
+        if later.len() < HEAD {
+            return Turn::Gone;
+        }
+        let (head, lits) = later.split_at_mut(HEAD);
+        let count = head[1] as usize;
+        if count < 2 || count > lits.len() {
+            return Turn::Gone;
+        }
+        let (lits, _) = lits.split_at_mut(count);
+        turn_among(trail, head, lits, off)
     }
 
     /// Takes the list of a literal out.
-    pub fn open(&mut self, lit: Lit) -> Vec<Watch> {
-        let index = lit.number();
+    pub fn open(&mut self, lit: u32) -> Vec<Watch> {
+        let index = lit as usize;
         let empty = Vec::new(self.alloc);
         if index < self.lists.len() {
             return std::mem::replace(&mut self.lists[index], empty);
@@ -164,8 +347,8 @@ impl Watches {
     }
 
     /// Puts it back.
-    pub fn close(&mut self, lit: Lit, list: Vec<Watch>) {
-        let index = lit.number();
+    pub fn close(&mut self, lit: u32, list: Vec<Watch>) {
+        let index = lit as usize;
         if index < self.lists.len() {
             self.lists[index] = list;
         }

@@ -69,7 +69,14 @@ impl Trail {
     pub fn has(&self, lit: Lit) -> bool
         ensures { result ≡ is_in lit (lits_of self.now) }
     {
-        match self.trues.get(lit.number()) {
+        self.has_number(lit.number())
+    }
+
+    /// Whether the literal of this number is true.
+    pub fn has_number(&self, number: usize) -> bool
+        ensures { (lit : Lit) → lit_number lit ≡ number → result ≡ is_in lit (lits_of self.now) }
+    {
+        match self.trues.get(number) {
             Some(mark) => *mark,
             None => false,
         }

@@ -1,4 +1,4 @@
-use Rattle.std.proofs.Common.{◌≡◌, true, false, Some, arith, subst}
+use Rattle.std.proofs.Common.{◌≡◌, false, Some, arith, subst}
 use Rattle.std.proofs.lemmas.Option.{slice_get_within}
 use Rattle.cg_formula.specs.declared.formula.Clause.{Clause}
 use Rattle.cg_formula.specs.Satisfiable.{clause_bit}

@@ -2,17 +2,15 @@
 use Rattle.std.proofs.Common.{[], ◌≡◌, ℕ, suc, ◌<◌, ◌≤◌, List, ◌∷◌, map, length, replicate, slice_get, Option, None, Some, refl, ap}
 use Rattle.std.proofs.Common.{sym, ◌∙◌, subst, inl, inr, arith}
 use Rattle.std.specs.Option.{option_flatten}
-use Rattle.std.proofs.lemmas.List.{length-map}
 use Rattle.std.proofs.lemmas.Option.{slice_get_past}
 use Rattle.cg_netlist.specs.Circuit.{Circuit, RegisterCell}
-use Rattle.cg_net.specs.Names.{net_name}
 use Rattle.cg_machine.specs.Machine.{IsNet, MachineData}
 use Rattle.cg_machine.specs.Run.{with_enables}
 use Rattle.cg_extract.proofs.LiftedMachine.{start_count}
 use Rattle.cg_extract.proofs.Lifts.{enable_net, lifting_lifts}
 use Rattle.cg_extract.proofs.NetPlaces.{clock_within}
 use Rattle.cg_extract.proofs.Taking.{lifting_free}
-use Rattle.cg_extract.specs.Lifted.{CanExtract, enable_under, kept_nets, lifted, lifting}
+use Rattle.cg_extract.specs.Lifted.{CanExtract, enable_under, lifted, lifting}
 use Rattle.cg_extract.specs.inner.Taking.{IsEnableTable, entry_at, table_enables}
 use Rattle.cg_machine.proofs.Lists.{below_or}
 
@@ -43,10 +41,3 @@ module _ (c : Circuit) (prefix : List ℕ) (can : CanExtract c prefix) (old : Ma
 
   pub enabled : with_enables m (table_enables table c.registers) ≡ lifted c prefix
   enabled = ap (λ n. with_enables n (table_enables table c.registers)) machine_is ∙ ap (with_enables (lifting c prefix).machine) (same_enables c.registers (clock_within c can.netlist))
-
-  pub kept_few : length (kept_nets c) ≤ length m.circuit.names
-  kept_few =
-      let long = length-map (kept_nets c) (net_name c.names) in
-      let same = ap (λ (n : MachineData). length n.circuit.names) machine_is in
-      let more = (lifting_lifts c prefix can).extends.names in
-      omega (arith, long, same, more)

@@ -3,7 +3,6 @@ pub mod Bare
 pub mod BareOfUngated
 pub mod BareParts
 pub mod Chained
-pub mod Copied
 pub mod Depths
 pub mod Extracted
 pub mod ForGating

@@ -1,5 +1,5 @@
 pub mod Chained
-pub mod Extracting
+pub mod Reading
 pub mod Laws
 pub mod Lifted
 pub mod inner

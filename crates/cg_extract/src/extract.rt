@@ -1,17 +1,19 @@
 //! A netlist without its gating cells, with the numbers that its nets get, and its machine, in which gating cells are enables.
+//!
+//! A netlist that has none is moved into its machine as it is, so it stands in memory once.
 
-ghost use Rattle.std.specs.Prelude.{◌≡◌, IfOk, ◌<◌, ℕ, None, Some, length, replicate, nat_eq, slice_get, [], ◌≤◌, ◌+◌, ◌^◌, true, slice_index_or};
-ghost use Rattle.cg_extract.specs.Extracting.{extracted};
-ghost use Rattle.cg_extract.specs.Lifted.{CanExtract, HasNoTests, bare, chained, lifting, ungated, kept_nets, number_of, origins};
+ghost use Rattle.std.specs.Prelude.{◌≡◌, IfOk, OnOk, ◌<◌, ℕ, None, Some, length, replicate, nat_eq, slice_get, [], ◌≤◌, ◌+◌, ◌^◌, true, slice_index_or};
+ghost use Rattle.std.specs.Prelude.{unwrap_or};
+ghost use Rattle.cg_extract.specs.Lifted.{CanExtract, HasNoTests, bare, chained, lifted, lifting, ungated, kept_nets, number_of, origins};
+ghost use Rattle.cg_extract.specs.Reading.{read_of};
 ghost use Rattle.cg_extract.specs.inner.Taking.{CanTake, IsEnableTable, IsTaken, entry_at, given, table_enables};
 ghost use Rattle.cg_limit.specs.declared.TheConstants.{MOST_NETS};
 ghost use Rattle.cg_machine.specs.Machine.{IsNet};
 ghost use Rattle.cg_machine.specs.Run.{with_enables};
 ghost use Rattle.cg_machine.specs.Start.{machine_of};
-ghost use Rattle.std.specs.List.{IsDistinct, range_with_len};
+ghost use Rattle.std.specs.List.{IsDistinct};
 ghost use Rattle.std.specs.Option.{option_to_list};
 ghost use Rattle.cg_extract.specs.inner.BareParts.{bare_parts};
-ghost use Rattle.cg_netlist.specs.View.{function_seen, kind_seen};
 ghost use Rattle.cg_netlist_builder.specs.Building.{fresh};
 ghost use Rattle.cg_netlist_telling.specs.NamedParts.{clocked_parts, with_clock};
 ghost use Rattle.cg_netlist_telling.specs.Telling.{MayTell, WasTold, told};
@@ -21,68 +23,114 @@ ghost use Rattle.cg_netlist.specs.Netlist.{IsNetlist};
 
 use cg_cell::fit::FitKind;
 use cg_cell::name::Name;
-use cg_list::Seq;
 use cg_machine::machine::Machine;
-use cg_net::id::{CellId, GateClockId, NetId, RegId};
-use cg_net::names::{NetNames, OrderedNames};
+use cg_net::id::{GateClockId, NetId, RegId};
 use cg_netlist::fault::AddFault;
 use cg_netlist::netlist::Netlist;
-use cg_netlist::parts::{
-    Function, Logic, LogicFunction, Parts, RegKind, RegView, Register, RegisterKind,
-};
+use cg_netlist::parts::RegView;
 use cg_netlist_builder::builder::Builder;
 use cg_netlist_telling::parts::{
     NetlistNames, clock_or_first, tell_cells, tell_clock, tell_inputs, tell_outputs, tell_register,
 };
 use std::alloc::{AllocError, Global};
 
-/// A machine that was made of a netlist with gating cells.
+/// A machine that was made of a netlist.
 #[derive(Drop)]
 pub struct Extracted {
     /// The machine: the netlist without its gating cells, whose registers have the enables of their gating cells.
     pub machine: Machine,
 
-    /// For each net of the machine the net of the netlist that it stands for, and `None` for an added one.
-    pub origin: Seq<Option<NetId>>,
+    /// The netlist, where it has gating cells. Where it has none, the machine has it as its own.
+    pub kept: Option<Netlist>,
 }
 
-/// The machine of a netlist with gating cells.
+/// The machine of a netlist, to whose enables its gating cells are lifted.
 ///
 /// No output of the netlist may stand twice, no net may have a name that begins with the prefix of the names of added nets, and no
 /// gating cell may have a test pin. A chain of gating cells makes ands of two nets. `first_refused` is the test: where it finds
 /// none, no gating cell has a test pin, and there is a cell for each and.
-pub fn extract(alloc: Global, netlist: &Netlist, prefix: &Name) -> Result<Extracted, AllocError>
-    requires can { CanExtract netlist.now prefix.now }
-    requires untested { HasNoTests netlist.now }
-    ensures { IfOk result (λ made. (made.machine, made.origin) ≡ extracted netlist.now prefix.now) }
+pub fn extract(alloc: Global, netlist: Netlist, prefix: &Name) -> Result<Extracted, AllocError>
+    requires can { CanExtract netlist prefix.now }
+    requires untested { HasNoTests netlist }
+    ensures machine { IfOk result (λ made. made.machine ≡ lifted netlist prefix.now) }
+    ensures kept { IfOk result (λ made. unwrap_or made.kept (bare netlist) ≡ netlist) }
 {
-    let kept = bare(alloc, netlist)?;
-    let mut machine = Machine::of(alloc, kept, prefix)?;
-    match lift_enabled(alloc, netlist, &mut machine) {
-        Ok(origin) => Ok(Extracted { machine, origin }),
+    if netlist.gaters() == 0 {
+        // Nothing is left out, and no net gets another number.
+        of_ungated(alloc, netlist, prefix)
+    } else {
+        of_gated(alloc, netlist, prefix)
+    }
+}
+
+/// The netlist of which a machine was made: the one that was kept beside it, or else the machine's own.
+pub fn read_of<'a>(kept: &'a Option<Netlist>, machine: &'a Machine) -> &'a Netlist
+    ensures { result.now ≡ read_of kept.now machine.now }
+{
+    match kept {
+        Some(netlist) => netlist,
+        None => machine.netlist(),
+    }
+}
+
+/// The machine of a netlist that has no gating cells: it takes the netlist as it is.
+fn of_ungated(alloc: Global, netlist: Netlist, prefix: &Name) -> Result<Extracted, AllocError>
+    requires can { CanExtract netlist prefix.now }
+    requires none { netlist.gaters ≡ [] }
+    ensures machine { IfOk result (λ made. made.machine ≡ lifted netlist prefix.now) }
+    ensures kept { IfOk result (λ made. unwrap_or made.kept (bare netlist) ≡ netlist) }
+{
+    let machine = Machine::of(alloc, netlist, prefix)?;
+    Ok(Extracted {
+        machine,
+        kept: None,
+    })
+}
+
+/// The machine of a netlist that has gating cells, with the netlist.
+fn of_gated(alloc: Global, netlist: Netlist, prefix: &Name) -> Result<Extracted, AllocError>
+    requires { CanExtract netlist prefix.now }
+    ensures machine { IfOk result (λ made. made.machine ≡ lifted netlist prefix.now) }
+    ensures kept { IfOk result (λ made. unwrap_or made.kept (bare netlist) ≡ netlist) }
+{
+    match lifted(alloc, &netlist, prefix) {
+        Ok(machine) => Ok(Extracted {
+            machine,
+            kept: Some(netlist),
+        }),
         Err(fault) => {
-            // By a call, as its parts would else be dropped one by one in the proof.
+            // By a call, as its parts would else be dropped one by one in the proof; so too below.
+            drop(netlist);
+            Err(fault)
+        }
+    }
+}
+
+/// The machine of a netlist, made of the netlist without its gating cells.
+fn lifted(alloc: Global, netlist: &Netlist, prefix: &Name) -> Result<Machine, AllocError>
+    requires { CanExtract netlist.now prefix.now }
+    ensures { IfOk result (λ machine. machine ≡ lifted netlist.now prefix.now) }
+{
+    let bare = bare(alloc, netlist)?;
+    let mut machine = Machine::of(alloc, bare, prefix)?;
+    match lift_enabled(alloc, netlist, &mut machine) {
+        Ok(()) => Ok(machine),
+        Err(fault) => {
             drop(machine);
             Err(fault)
         }
     }
 }
 
-/// Takes all gating cells of a netlist into the machine of the netlist without them, gives its registers their enables, and
-/// answers for each of its nets which net of the netlist it stands for.
-fn lift_enabled(
-    alloc: Global,
-    netlist: &Netlist,
-    machine: &mut Machine,
-) -> Result<Seq<Option<NetId>>, AllocError>
+/// Takes all gating cells of a netlist into the machine of the netlist without them, and gives its registers their enables.
+fn lift_enabled(alloc: Global, netlist: &Netlist, machine: &mut Machine) -> Result<(), AllocError>
     requires can { CanExtract netlist.now machine.old.prefix }
     requires bare { machine.old ≡ machine_of (bare netlist.now) machine.old.prefix }
-    ensures { IfOk result (λ origin. (machine.new, origin) ≡ extracted netlist.now machine.old.prefix) }
+    ensures { OnOk result (machine.new ≡ lifted netlist.now machine.old.prefix) }
 {
     let enables = lift(alloc, netlist, machine)?;
     set_enables(netlist, machine, &enables);
-    let origin = origins(alloc, netlist, machine)?;
-    Ok(Seq::from_vec(origin))
+    Ok(())
 }
 
 /// Takes all gating cells of a netlist into the machine of the netlist without them, and answers for each net the enable of what
@@ -239,19 +287,6 @@ fn bare(alloc: Global, netlist: &Netlist) -> Result<Netlist, AllocError>
     requires { IsDistinct nat_eq netlist.now.outputs }
     ensures { IfOk result (λ kept. kept ≡ bare netlist.now) }
 {
-    if netlist.gaters() == 0 {
-        // Nothing is left out, and no net gets another number.
-        copy(alloc, netlist)
-    } else {
-        stripped(alloc, netlist)
-    }
-}
-
-/// The netlist without its gating cells, made of its parts.
-fn stripped(alloc: Global, netlist: &Netlist) -> Result<Netlist, AllocError>
-    requires { IsDistinct nat_eq netlist.now.outputs }
-    ensures { IfOk result (λ kept. kept ≡ bare netlist.now) }
-{
     let _nets = netlist.nets();
     // Its parts are those of a netlist, and no more than before: only memory can be wanting.
     let builder = told_builder(alloc, netlist).map_err(|_| AllocError)?;
@@ -327,146 +362,4 @@ fn tell_on_clock(
     let register = netlist.register(reg);
     let on_clock = RegView { clock, ..register };
     tell_register(alloc, builder, names, on_clock, clock)
-}
-
-/// The same netlist once more. It must have no gating cells.
-fn copy(alloc: Global, netlist: &Netlist) -> Result<Netlist, AllocError>
-    requires { netlist.now.gaters ≡ [] }
-    ensures { IfOk result (λ copy. copy ≡ netlist.now) }
-{
-    let _nets = netlist.nets();
-    let parts = copy_parts(alloc, netlist)?;
-    Netlist::new(alloc, parts)
-}
-
-/// The same parts.
-fn copy_parts(alloc: Global, netlist: &Netlist) -> Result<Parts, AllocError>
-    requires { netlist.now.gaters ≡ [] }
-    ensures { IfOk result (λ parts. parts ≡ netlist.now) }
-{
-    let _nets = netlist.nets();
-    let model = Name::new(alloc, netlist.model())?;
-    let inputs = Vec::from_slice(alloc, netlist.inputs())?;
-    let outputs = Vec::from_slice(alloc, netlist.outputs())?;
-    let names = copy_names(alloc, netlist)?;
-    let cells = copy_cells(alloc, netlist)?;
-    let registers = copy_registers(alloc, netlist)?;
-    Ok(Parts {
-        model,
-        names,
-        inputs,
-        clock: netlist.clock(),
-        outputs,
-        cells,
-        gaters: Vec::new(alloc),
-        registers,
-    })
-}
-
-/// The same logic cells.
-fn copy_cells(alloc: Global, netlist: &Netlist) -> Result<Vec<Logic>, AllocError>
-    ensures { IfOk result (λ cells. cells.items ≡ netlist.now.cells) }
-{
-    let mut cells = Vec::with_capacity(alloc, netlist.cells() as usize)?;
-    for number in 0..netlist.cells() {
-        cells.push(copy_cell(alloc, netlist, CellId::new(number))?)?;
-    }
-    Ok(cells)
-}
-
-/// The same logic cell.
-fn copy_cell(alloc: Global, netlist: &Netlist, id: CellId) -> Result<Logic, AllocError>
-    requires { id < length netlist.now.cells }
-    ensures { IfOk result (λ copy. slice_get netlist.now.cells id ≡ Some copy) }
-{
-    let cell = netlist.cell(id);
-    let inputs = Vec::from_slice(alloc, cell.inputs)?;
-    let function = copy_function(cell.function)?;
-    Ok(Logic {
-        inputs,
-        output: cell.output,
-        function,
-    })
-}
-
-/// The same function. A placed cell shares what its library has of it.
-fn copy_function(function: Function<'_>) -> Result<LogicFunction, AllocError>
-    ensures { IfOk result (λ copy. copy ≡ function_seen function.entry) }
-{
-    match function {
-        Function::Cover(cover) => Ok(LogicFunction::Cover(cover.clone()?)),
-        Function::Cell(cell) => Ok(LogicFunction::Cell(cell.clone()?)),
-    }
-}
-
-/// The same registers.
-fn copy_registers(alloc: Global, netlist: &Netlist) -> Result<Vec<Register>, AllocError>
-    ensures { IfOk result (λ registers. registers.items ≡ netlist.now.registers) }
-{
-    let mut registers = Vec::with_capacity(alloc, netlist.registers() as usize)?;
-    for number in 0..netlist.registers() {
-        registers.push(copy_register(alloc, netlist, RegId::new(number))?)?;
-    }
-    Ok(registers)
-}
-
-/// The same register.
-fn copy_register(alloc: Global, netlist: &Netlist, id: RegId) -> Result<Register, AllocError>
-    requires { id < length netlist.now.registers }
-    ensures { IfOk result (λ copy. slice_get netlist.now.registers id ≡ Some copy) }
-{
-    let register = netlist.register(id);
-    let inputs = Vec::from_slice(alloc, register.inputs)?;
-    let outputs = Vec::from_slice(alloc, register.outputs)?;
-    let pins = Vec::from_slice(alloc, register.pins)?;
-    let kind = copy_kind(register.kind)?;
-    Ok(Register {
-        inputs,
-        outputs,
-        pins,
-        clock: register.clock,
-        kind,
-        init: register.init,
-    })
-}
-
-/// The same kind of register.
-fn copy_kind(kind: RegKind<'_>) -> Result<RegisterKind, AllocError>
-    ensures { IfOk result (λ copy. copy ≡ kind_seen kind.entry) }
-{
-    match kind {
-        RegKind::Plain => Ok(RegisterKind::Plain),
-        RegKind::Cell(cell) => Ok(RegisterKind::Flop(cell.clone()?)),
-    }
-}
-
-/// The names of all nets, each at the place of its net.
-fn copy_names(alloc: Global, netlist: &Netlist) -> Result<OrderedNames, AllocError>
-    ensures { IfOk result (λ names. names ≡ netlist.now.names) }
-{
-    let names = table(alloc, netlist)?;
-    let order = nets_below(alloc, netlist.nets())?;
-    OrderedNames::new(alloc, names, order)
-}
-
-/// A table of the names, in the order of their nets.
-fn table(alloc: Global, netlist: &Netlist) -> Result<NetNames, AllocError>
-    ensures { IfOk result (λ names. names ≡ netlist.now.names) }
-{
-    let mut names = NetNames::new(alloc);
-    for number in 0..netlist.nets() {
-        names.intern(alloc, netlist.name(NetId::new(number)))?;
-    }
-    Ok(names)
-}
-
-/// The nets whose numbers are below this one, in order.
-fn nets_below(alloc: Global, count: u32) -> Result<Vec<NetId>, AllocError>
-    ensures { IfOk result (λ nets. nets.items ≡ range_with_len 0 count) }
-{
-    let mut nets = Vec::with_capacity(alloc, count as usize)?;
-    for number in 0..count {
-        nets.push(NetId::new(number))?;
-    }
-    Ok(nets)
 }

@@ -5,7 +5,9 @@ mod Deserved
 mod Gated
 mod Hinted
 mod HintNames
+mod Kept
 mod Leads
+mod Left
 mod LiftedInputs
 mod Loading
 mod MayInsert

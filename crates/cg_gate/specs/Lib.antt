@@ -9,3 +9,4 @@ pub mod Loading
 pub mod HintNames
 pub mod Headline
 pub mod Proper
+pub mod Left

@@ -8,6 +8,7 @@
 //! - [`request`]: what is asked for, and [`fault`]: why it is not done.
 //! - `counting`: how often nets are 0 on a stimulus.
 //! - `planning`: the hints of a netlist, and its plan.
+//! - `proving`: the proof file of these, behind which their certificates are let go.
 //! - `playing`: what comes of a stimulus on both netlists.
 //! - `registers`: why each register is gated, or why it is not.
 //! - [`gate`]: all of it, and its texts.
@@ -18,5 +19,6 @@ pub mod fault;
 pub mod gate;
 mod planning;
 mod playing;
+mod proving;
 mod registers;
 pub mod request;

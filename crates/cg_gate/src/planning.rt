@@ -3,8 +3,10 @@
 ghost use Rattle.std.specs.Prelude.{◌≡◌, ℕ, List, Some, IfOk, IfErr, IsTrue, [], map, unwrap_or};
 ghost use Rattle.std.specs.Option.{option_copied, option_or};
 ghost use Rattle.cg_cell.specs.Name.{is_name};
-ghost use Rattle.cg_extract.specs.Lifted.{lifted};
-ghost use Rattle.cg_gate.specs.Gating.{AreHintsTried, IsBegunPlan, IsWritten};
+ghost use Rattle.cg_extract.specs.Lifted.{bare, lifted};
+ghost use Rattle.cg_extract.specs.Reading.{read_of};
+ghost use Rattle.cg_gate.specs.Gating.{AreHintsTried, IsBegunPlan};
+ghost use Rattle.cg_gate.specs.Left.{IsGatedAs, gated_by};
 ghost use Rattle.cg_gate.specs.Proper.{IsProper};
 ghost use Rattle.cg_gate.specs.Request.{MayGate, begun_of, gating_of, hints_limit, plan_limit, stops_at};
 ghost use Rattle.cg_insert.specs.Insert.{CanInsert};
@@ -18,12 +20,16 @@ ghost use Rattle.cg_plan.specs.Planning.{AreWritable, told};
 ghost use Rattle.cg_stimulus.specs.Inputs.{IsFor, IsStimulus, Rows};
 ghost use Rattle.std.specs.List.{All, AllByRecursion};
 ghost use Rattle.cg_gate_laws.specs.Begun.{renamed, renamed_literal};
+ghost use Rattle.cg_hint_laws.specs.Answers.{AreTried, MayFail};
+ghost use Rattle.cg_hint_laws.specs.Laws.{AllFit};
 ghost use Rattle.cg_hint_laws.specs.OfNetlist.{IsOf, IsPlain};
+ghost use Rattle.cg_hint_laws.specs.Trying.{hinted};
 
 use crate::counting::machine_zeros;
+use crate::proving::{Proved, prove};
 use crate::request::Request;
 use cg_cell::name::Name;
-use cg_extract::extract::{extract, number};
+use cg_extract::extract::{Extracted, extract, number, read_of};
 use cg_hint_laws::certificate::HintCertificate;
 use cg_hint_laws::hint::Hint;
 use cg_hint_laws::outcome::HintOutcome;
@@ -41,12 +47,30 @@ use cg_stage_list_laws::net_zeros::NetZeros;
 use cg_stimulus::stimulus::Stimulus;
 use std::alloc::{AllocError, Global};
 
-/// A netlist that was gated: the hints that were tried, the plan behind them, and the netlist that the plan's machine is written as.
+/// A netlist that was gated: what came of the hints, the plan behind them, the proof file of both, where it is asked for, and the netlist
+/// that the plan's machine is written as.
 #[derive(Drop)]
 pub struct Gated {
-    pub hints: TriedHints,
+    /// What came of each hint, in order.
+    pub outcomes: Seq<HintOutcome>,
+
+    /// The plan without its certificates.
     pub plan: Plan,
+
+    pub proof: Option<Seq<u8>>,
     pub netlist: Netlist,
+
+    /// The netlist that was read, where it is not the own one of the plan's machine.
+    pub kept: Option<Netlist>,
+}
+
+impl Gated {
+    /// The netlist that was read.
+    pub fn read(&self) -> &Netlist
+        ensures { result.now ≡ read_of self.now.kept self.now.plan.machine }
+    {
+        read_of(&self.kept, &self.plan.machine)
+    }
 }
 
 /// Hints that were tried before a plan.
@@ -61,9 +85,12 @@ pub struct TriedHints {
 
 /// Hints that were tried, and the plan that begins with what they leave.
 #[derive(Drop)]
-struct Planned {
+pub(crate) struct Planned {
     pub hints: TriedHints,
     pub plan: Plan,
+
+    /// The netlist that was read, where it is not the machine's own.
+    pub kept: Option<Netlist>,
 }
 
 /// What hints leave of the machine of a netlist, and what came of them.
@@ -74,6 +101,9 @@ struct Begun {
 
     /// The hints that were tried.
     pub hints: TriedHints,
+
+    /// The netlist that was read, where it is not the machine's own.
+    pub kept: Option<Netlist>,
 }
 
 /// Tries the hints on the machine of a netlist, to whose enables its gating cells are lifted, plans the machine that they leave, and
@@ -83,25 +113,25 @@ struct Begun {
 /// would pass.
 pub fn gate_netlist(
     alloc: Global,
-    netlist: &Netlist,
+    netlist: Netlist,
     request: &Request<'_>,
     progress: &mut dyn Progress,
 ) -> Result<Gated, AddFault>
-    requires { MayGate request.now netlist.now }
-    ensures gated { IfOk result (λ gated. IsWritten (gating_of request.now netlist.now) netlist.now
-        gated.hints (told gated.plan) gated.netlist) }
+    requires { MayGate request.now netlist }
+    ensures gated { IfOk result (λ gated. IsGatedAs request.now netlist gated) }
+    ensures read { IfOk result (λ gated. read_of gated.kept gated.plan.machine ≡ netlist) }
     ensures fits { IfOk result (λ gated. (stimulus : Rows) → request.now.stimulus ≡ Some stimulus → IsFor gated.netlist stimulus) }
-    ensures writable { IfOk result (λ gated. AreWritable gated.plan.certificates) }
     ensures proper { IsProper request.now }
-    ensures fault { IfErr result (PlanMayFail (stops_at request.now netlist.now)) }
+    ensures fault { IfErr result (PlanMayFail (stops_at request.now netlist)) }
 {
     hold_request(request);
     let planned = plan_netlist(alloc, netlist, request, progress)?;
-    match write_plan(alloc, &planned.plan, request) {
-        Ok(netlist) => Ok(written(planned, netlist)),
+    let proved = prove(alloc, planned, request.settings.proof)?;
+    match write_plan(alloc, &proved.plan, request) {
+        Ok(netlist) => Ok(written(proved, netlist)),
         Err(fault) => {
             // By a call, as its parts would else be dropped one by one in the proof; so too below.
-            drop(planned);
+            drop(proved);
             Err(fault)
         }
     }
@@ -137,76 +167,98 @@ fn name_test(test: Option<&Name>)
 /// The hints of a netlist, tried on its machine, and the plan that begins with what they leave.
 fn plan_netlist(
     alloc: Global,
-    netlist: &Netlist,
+    netlist: Netlist,
     request: &Request<'_>,
     progress: &mut dyn Progress,
 ) -> Result<Planned, AddFault>
-    requires { MayGate request.now netlist.now }
-    ensures tried { IfOk result (λ planned. AreHintsTried (gating_of request.now netlist.now) netlist.now planned.hints) }
-    ensures plan { IfOk result (λ planned. IsBegunPlan request.now netlist.now (told planned.plan)) }
+    requires { MayGate request.now netlist }
+    ensures tried { IfOk result (λ planned. AreHintsTried (gating_of request.now netlist) netlist planned.hints) }
+    ensures plan { IfOk result (λ planned. IsBegunPlan request.now netlist (told planned.plan)) }
     ensures writable { IfOk result (λ planned. AreWritable planned.plan.certificates) }
-    ensures fault { IfErr result (PlanMayFail (option_or (hints_limit (gating_of request.now netlist.now) netlist.now)
-        (plan_limit (gating_of request.now netlist.now) netlist.now))) }
+    ensures kept { IfOk result (λ planned. unwrap_or planned.kept (bare netlist) ≡ netlist) }
+    ensures fault { IfErr result (PlanMayFail (option_or (hints_limit (gating_of request.now netlist) netlist)
+        (plan_limit (gating_of request.now netlist) netlist))) }
 {
-    let Ok(machine) = lift(alloc, netlist, request) else {
+    let begun = begin(alloc, netlist, request)?;
+    plan_hinted(alloc, begun, request, progress)
+}
+
+/// The machine of a netlist none of whose gating cells is refused, with what hints leave of it.
+fn begin(alloc: Global, netlist: Netlist, request: &Request<'_>) -> Result<Begun, AddFault>
+    requires { MayGate request.now netlist }
+    ensures machine { IfOk result (λ begun. begun.machine ≡ begun_of request.now netlist) }
+    ensures tried { IfOk result (λ begun. AreHintsTried (gating_of request.now netlist) netlist begun.hints) }
+    ensures kept { IfOk result (λ begun. unwrap_or begun.kept (bare netlist) ≡ netlist) }
+    ensures fault { IfErr result (PlanMayFail (hints_limit (gating_of request.now netlist) netlist)) }
+{
+    let Ok(hints) = machine_hints(alloc, &netlist, request.hints) else {
+        drop(netlist);
         return Err(AddFault::NoMemory);
     };
-    let begun = try_hints(alloc, netlist, machine, request)?;
-    plan_hinted(alloc, netlist, begun, request, progress)
+    let Ok(made) = lift(alloc, netlist, request) else {
+        return Err(AddFault::NoMemory);
+    };
+    try_hints(alloc, made, &hints, request)
 }
 
 /// The machine of a netlist none of whose gating cells is refused.
-fn lift(alloc: Global, netlist: &Netlist, request: &Request<'_>) -> Result<Machine, AllocError>
-    requires { MayGate request.now netlist.now }
-    ensures { IfOk result (λ machine. machine ≡ lifted netlist.now request.now.prefix) }
+fn lift(alloc: Global, netlist: Netlist, request: &Request<'_>) -> Result<Extracted, AllocError>
+    requires { MayGate request.now netlist }
+    ensures machine { IfOk result (λ made. made.machine ≡ lifted netlist request.now.prefix) }
+    ensures kept { IfOk result (λ made. unwrap_or made.kept (bare netlist) ≡ netlist) }
 {
-    let made = extract(alloc, netlist, request.prefix)?;
-    Ok(made.machine)
+    extract(alloc, netlist, request.prefix)
 }
 
 /// Hints that were tried on the machine of a netlist, and the plan that begins with what they leave.
 fn plan_hinted(
     alloc: Global,
-    netlist: &Netlist,
     begun: Begun,
     request: &Request<'_>,
     progress: &mut dyn Progress,
 ) -> Result<Planned, AddFault>
-    requires may { MayGate request.now netlist.now }
-    requires begun { begun.machine ≡ begun_of request.now netlist.now }
+    requires may { MayGate request.now (read_of begun.kept begun.machine) }
+    requires begun { begun.machine ≡ begun_of request.now (read_of begun.kept begun.machine) }
     ensures hints { IfOk result (λ planned. planned.hints ≡ begun.hints) }
-    ensures plan { IfOk result (λ planned. IsBegunPlan request.now netlist.now (told planned.plan)) }
+    ensures kept { IfOk result (λ planned. planned.kept ≡ begun.kept) }
+    ensures plan { IfOk result (λ planned. IsBegunPlan request.now (read_of begun.kept begun.machine) (told planned.plan)) }
     ensures writable { IfOk result (λ planned. AreWritable planned.plan.certificates) }
-    ensures fault { IfErr result (PlanMayFail (plan_limit (gating_of request.now netlist.now) netlist.now)) }
+    ensures fault { IfErr result (PlanMayFail (plan_limit (gating_of request.now (read_of begun.kept begun.machine)) (read_of begun.kept begun.machine))) }
 {
-    let Begun { machine, hints } = begun;
-    match plan_begun(alloc, netlist, machine, request, progress) {
-        Ok(plan) => Ok(Planned { hints, plan }),
+    let Begun {
+        machine,
+        hints,
+        kept,
+    } = begun;
+    match plan_begun(alloc, &kept, machine, request, progress) {
+        Ok(plan) => Ok(Planned { hints, plan, kept }),
         Err(fault) => {
             drop(hints);
+            drop(kept);
             Err(fault)
         }
     }
 }
 
-/// The plan that begins with the machine that hints leave of a netlist, for which nets are counted that are 0 on the rows of the
-/// stimulus, where there is one.
+/// The plan that begins with the machine that hints leave of a netlist, which is kept beside it where it is not the machine's own. Nets
+/// are counted that are 0 on the rows of the stimulus, where there is one.
 fn plan_begun(
     alloc: Global,
-    netlist: &Netlist,
+    kept: &Option<Netlist>,
     machine: Machine,
     request: &Request<'_>,
     progress: &mut dyn Progress,
 ) -> Result<Plan, AddFault>
-    requires may { MayGate request.now netlist.now }
-    requires begun { machine ≡ begun_of request.now netlist.now }
-    ensures plan { IfOk result (λ plan. IsBegunPlan request.now netlist.now (told plan)) }
+    requires may { MayGate request.now (read_of kept.now machine) }
+    requires begun { machine ≡ begun_of request.now (read_of kept.now machine) }
+    ensures plan { IfOk result (λ plan. IsBegunPlan request.now (read_of kept.now machine) (told plan)) }
     ensures writable { IfOk result (λ plan. AreWritable plan.certificates) }
-    ensures fault { IfErr result (PlanMayFail (plan_limit (gating_of request.now netlist.now) netlist.now)) }
+    ensures fault { IfErr result (PlanMayFail (plan_limit (gating_of request.now (read_of kept.now machine)) (read_of kept.now machine))) }
 {
     match request.stimulus {
         None => plan_machine(alloc, machine, request, None, progress),
         Some(stimulus) => {
+            let netlist = read_of(kept, &machine);
             let Ok(zeros) = machine_zeros(alloc, netlist, &machine, stimulus) else {
                 drop(machine);
                 return Err(AddFault::NoMemory);
@@ -252,43 +304,45 @@ fn write_plan(alloc: Global, plan: &Plan, request: &Request<'_>) -> Result<Netli
 }
 
 /// A plan behind hints, and the netlist that its machine is written as.
-fn written(planned: Planned, netlist: Netlist) -> Gated
-    ensures { result ≡ record { hints = planned.hints; plan = planned.plan; netlist = netlist } }
+fn written(proved: Proved, netlist: Netlist) -> Gated
+    ensures { result ≡ gated_by proved netlist }
 {
     Gated {
-        hints: planned.hints,
-        plan: planned.plan,
+        outcomes: proved.outcomes,
+        plan: proved.plan,
+        proof: proved.proof,
         netlist,
+        kept: proved.kept,
     }
 }
 
-/// Tries the hints of a request on the machine of the netlist, one after another.
+/// Tries hints on the machine that was made of a netlist, one after another.
 fn try_hints(
     alloc: Global,
-    netlist: &Netlist,
-    machine: Machine,
+    made: Extracted,
+    hints: &[Hint],
     request: &Request<'_>,
 ) -> Result<Begun, AddFault>
-    requires may { MayGate request.now netlist.now }
-    requires machine { machine ≡ lifted netlist.now request.now.prefix }
-    ensures machine { IfOk result (λ begun. begun.machine ≡ begun_of request.now netlist.now) }
-    ensures tried { IfOk result (λ begun. AreHintsTried (gating_of request.now netlist.now) netlist.now begun.hints) }
-    ensures fault { IfErr result (PlanMayFail (hints_limit (gating_of request.now netlist.now) netlist.now)) }
+    requires { AllFit made.machine hints.now }
+    ensures tried { IfOk result (λ begun. AreTried request.now.library request.now.settings.width made.machine hints.now
+        (record { machine = begun.machine; outcomes = begun.hints.outcomes; certificates = begun.hints.certificates })) }
+    ensures kept { IfOk result (λ begun. begun.kept ≡ made.kept) }
+    ensures fault { IfErr result (MayFail (hinted request.now.library request.now.settings.width made.machine hints.now)) }
 {
-    let Ok(hints) = machine_hints(alloc, netlist, request.hints) else {
-        // By a call, as its parts would else be dropped one by one in the proof.
-        drop(machine);
-        return Err(AddFault::NoMemory);
-    };
+    let Extracted { machine, kept } = made;
     let width = request.settings.width;
-    let applied = apply_all(alloc, machine, &hints, request.library, width)?;
-    Ok(leave(applied))
+    match apply_all(alloc, machine, hints, request.library, width) {
+        Ok(applied) => Ok(leave(applied, kept)),
+        Err(fault) => {
+            drop(kept);
+            Err(fault)
+        }
+    }
 }
 
 /// What applied hints leave.
-fn leave(applied: Applied) -> Begun
-    ensures machine { result.machine ≡ applied.machine }
-    ensures hints { result.hints ≡ record { outcomes = applied.outcomes; certificates = applied.certificates } }
+fn leave(applied: Applied, kept: Option<Netlist>) -> Begun
+    ensures { result ≡ record { machine = applied.machine; hints = record { outcomes = applied.outcomes; certificates = applied.certificates }; kept = kept } }
 {
     let Applied {
         machine,
@@ -301,6 +355,7 @@ fn leave(applied: Applied) -> Begun
             outcomes,
             certificates,
         },
+        kept,
     }
 }
 

@@ -27,11 +27,11 @@ pub(crate) fn registers_asked(
     read: &Netlist,
     gated: &Gated,
 ) -> Result<Option<Seq<u8>>, AllocError>
-    requires told { IsToldOf (gated_data request.now read.now gated.now.netlist gated.now.hints.outcomes (told gated.now.plan)) }
+    requires told { IsToldOf (gated_data request.now read.now gated.now.netlist gated.now.outcomes (told gated.now.plan)) }
     requires read { (rows : Rows) → request.now.stimulus ≡ Some rows → IsFor read.now rows }
     requires written { (rows : Rows) → request.now.stimulus ≡ Some rows → IsFor gated.now.netlist rows }
     ensures { IfOk result (TellsRegisters request.now
-        (gated_data request.now read.now gated.now.netlist gated.now.hints.outcomes (told gated.now.plan))) }
+        (gated_data request.now read.now gated.now.netlist gated.now.outcomes (told gated.now.plan))) }
 {
     if !request.registers {
         have_rises(read, &gated.netlist, request.stimulus);
@@ -50,17 +50,17 @@ fn text_of(
     gated: &Gated,
     rises: Option<&BothRises>,
 ) -> Result<Seq<u8>, AllocError>
-    requires told { IsToldOf (gated_data request.now read.now gated.now.netlist gated.now.hints.outcomes (told gated.now.plan)) }
+    requires told { IsToldOf (gated_data request.now read.now gated.now.netlist gated.now.outcomes (told gated.now.plan)) }
     requires rises { FewRises (option_copied rises) }
     ensures { IfOk result (λ text. text ≡ registers_text
-        (gated_data request.now read.now gated.now.netlist gated.now.hints.outcomes (told gated.now.plan)) (option_copied rises.entry)) }
+        (gated_data request.now read.now gated.now.netlist gated.now.outcomes (told gated.now.plan)) (option_copied rises.entry)) }
 {
     let told = Told {
         read,
         written: &gated.netlist,
         width: request.settings.width,
         hints: asked_hints(request.hints),
-        outcomes: gated.hints.outcomes.as_slice(),
+        outcomes: gated.outcomes.as_slice(),
         plan: &gated.plan,
     };
     Ok(Seq::from_vec(registers_text(alloc, &told, rises)?))

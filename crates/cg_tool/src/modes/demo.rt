@@ -98,10 +98,7 @@ fn finish(alloc: Global, demo: Demo, progress: &mut dyn Progress) -> Result<Outp
 {
     let wanted = wanted(alloc)?;
     let pipeline = read_pipeline(alloc, demo.size, &wanted)?;
-    let result = gate_pipeline(alloc, demo.size, &pipeline, &wanted, progress);
-    // By a call, as its parts would else be dropped one by one in the proof.
-    drop(pipeline);
-    result
+    gate_pipeline(alloc, demo.size, pipeline, &wanted, progress)
 }
 
 /// How the pipeline is gated: as the defaults say.
@@ -166,33 +163,42 @@ fn read_pipeline(alloc: Global, size: u32, wanted: &Wanted) -> Result<Pipeline, 
 }
 
 /// Gates a pipeline that was read.
-fn gate_pipeline<'a>(
+fn gate_pipeline(
     alloc: Global,
     size: u32,
-    pipeline: &'a Pipeline,
-    wanted: &'a Wanted,
+    pipeline: Pipeline,
+    wanted: &Wanted,
     progress: &mut dyn Progress,
 ) -> Result<Output, Trouble>
     requires wanted { wanted.now ≡ demo_wanted }
-    requires read { pipeline_found size ≡ Ok pipeline.now }
-    ensures { Concludes (pipeline_stops (Ok pipeline.now)) (PutsDemo size (pipeline_request pipeline.now) pipeline.now.netlist) result }
+    requires read { pipeline_found size ≡ Ok pipeline }
+    ensures { Concludes (pipeline_stops (Ok pipeline)) (PutsDemo size (pipeline_request pipeline) pipeline.netlist) result }
 {
+    let Pipeline {
+        library,
+        netlist,
+        stimulus,
+    } = pipeline;
     let _ = wanted.prefix.bytes();
-    let request = wanted.request(&pipeline.library, Some(&pipeline.stimulus), None);
-    gate_by(alloc, size, &pipeline.netlist, &request, progress)
+    let request = wanted.request(&library, Some(&stimulus), None);
+    let result = gate_by(alloc, size, netlist, &request, progress);
+    // By calls, as their parts would else be dropped one by one in the proof.
+    drop(library);
+    drop(stimulus);
+    result
 }
 
 /// What is put out of the pipeline, gated as a request asks.
 fn gate_by(
     alloc: Global,
     size: u32,
-    netlist: &Netlist,
+    netlist: Netlist,
     request: &Request<'_>,
     progress: &mut dyn Progress,
 ) -> Result<Output, Trouble>
-    requires may { MayGate request.now netlist.now }
+    requires may { MayGate request.now netlist }
     requires played { is_some request.now.stimulus ≡ true }
-    ensures { Concludes (option_map Trouble.Limit (stops_at request.now netlist.now)) (PutsDemo size request.now netlist.now) result }
+    ensures { Concludes (option_map Trouble.Limit (stops_at request.now netlist)) (PutsDemo size request.now netlist) result }
 {
     match gate_demo(alloc, size, netlist, request, progress) {
         Ok(said) => Ok(Output {

@@ -97,40 +97,50 @@ fn finish(
     requires { IsSomeAnd (design_of found) MayBeGated }
     ensures { Concludes (gate_stops found) (gate_gives (option_map (λ watcher. says watcher) watcher) found) result }
 {
-    let design = found.read();
-    let result = gate_design(alloc, &design, watcher, progress);
-    // By a call, as its parts would else be dropped one by one in the proof.
-    drop(design);
-    result
+    gate_design(alloc, found.read(), watcher, progress)
 }
 
-/// What is put out of a design, with the stimulus and the hints that were read for it.
+/// What is put out of a design, with the stimulus and the hints that were read for it. Its netlist is handed on, so that it stands in
+/// memory no longer than it is needed.
 fn gate_design(
     alloc: Global,
-    design: &Design<Wanted>,
+    design: Design<Wanted>,
     watcher: Option<Box<dyn Watcher>>,
     progress: &mut dyn Progress,
 ) -> Result<Output, Trouble>
-    requires { MayBeGated design.now }
-    ensures { Concludes (design_stops design.now) (design_gives (option_map (λ watcher. says watcher) watcher) design.now) result }
+    requires { MayBeGated design }
+    ensures { Concludes (design_stops design) (design_gives (option_map (λ watcher. says watcher) watcher) design) result }
 {
-    let stimulus = design.stimulus.as_ref();
-    let hints = design.hints.as_ref();
-    let request = design.demand.request(&design.library, stimulus, hints);
-    put_gated(alloc, &design.netlist, &request, watcher, progress)
+    let Design {
+        demand,
+        library,
+        netlist,
+        stimulus,
+        hints,
+    } = design;
+    let rows = stimulus.as_ref();
+    let told = hints.as_ref();
+    let request = demand.request(&library, rows, told);
+    let result = put_gated(alloc, netlist, &request, watcher, progress);
+    // By calls, as their parts would else be dropped one by one in the proof.
+    drop(library);
+    drop(stimulus);
+    drop(hints);
+    drop(demand);
+    result
 }
 
 /// What is put out of a netlist, by what gating is asked for.
 fn put_gated(
     alloc: Global,
-    netlist: &Netlist,
+    netlist: Netlist,
     request: &Request<'_>,
     watcher: Option<Box<dyn Watcher>>,
     progress: &mut dyn Progress,
 ) -> Result<Output, Trouble>
-    requires { MayGate request.now netlist.now }
-    ensures { Concludes (option_map gate_trouble (gating_stop request.now netlist.now))
-        (GatesAs (option_map (λ watcher. says watcher) watcher) request.now netlist.now) result }
+    requires { MayGate request.now netlist }
+    ensures { Concludes (option_map gate_trouble (gating_stop request.now netlist))
+        (GatesAs (option_map (λ watcher. says watcher) watcher) request.now netlist) result }
 {
     match gated(alloc, netlist, request, watcher, progress) {
         Ok(texts) => Ok(put_texts(alloc, texts)?),
@@ -167,16 +177,16 @@ fn gate_trouble(alloc: Global, fault: GateFault) -> Result<Trouble, AllocError>
 /// The texts of the gated netlist.
 fn gated(
     alloc: Global,
-    netlist: &Netlist,
+    netlist: Netlist,
     request: &Request<'_>,
     watcher: Option<Box<dyn Watcher>>,
     progress: &mut dyn Progress,
 ) -> Result<Texts, GateFault>
-    requires { MayGate request.now netlist.now }
-    ensures gives { IfOk result (λ texts. GivesGated request.now (option_map (λ watcher. says watcher) watcher) netlist.now texts) }
-    ensures headline { IfOk result (λ texts. Headline request.now (option_map (λ watcher. says watcher) watcher) netlist.now texts) }
-    ensures unstopped { OnOk result (gating_stop request.now netlist.now ≡ None) }
-    ensures fault { IfErr result (GatingMayFail (gating_stop request.now netlist.now)) }
+    requires { MayGate request.now netlist }
+    ensures gives { IfOk result (λ texts. GivesGated request.now (option_map (λ watcher. says watcher) watcher) netlist texts) }
+    ensures headline { IfOk result (λ texts. Headline request.now (option_map (λ watcher. says watcher) watcher) netlist texts) }
+    ensures unstopped { OnOk result (gating_stop request.now netlist ≡ None) }
+    ensures fault { IfErr result (GatingMayFail (gating_stop request.now netlist)) }
 {
     gate(alloc, netlist, request, watcher, progress)
 }

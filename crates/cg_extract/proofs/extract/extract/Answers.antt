@@ -1,12 +1,6 @@
-use Rattle.std.proofs.Common.{sym, ap, ◌∙◌, subst}
-use Rattle.cg_machine.specs.Machine.{MachineData}
-use Rattle.cg_machine.specs.Start.{CanStart}
-use Rattle.cg_extract.proofs.Bare.{bare_starts}
-use Rattle.cg_extract.specs.Extracting.{extracted}
+use Rattle.std.proofs.Common.{arith}
+use Rattle.cg_extract.proofs.BareOfUngated.{nothing}
 use Rattle.cg_extract.proofs.extract.extract.Goals as goal
 
-pub of-requires : goal.of-requires
-of-requires c = subst (λ d. CanStart d c.args.prefix.now) (sym c.in_ok-kept.ensures) (bare_starts c.args.netlist.now c.args.prefix.now c.requires.can)
-
-pub returns-in-Ok : goal.returns-in-Ok
-returns-in-Ok c = c.in-Ok.ensures ∙ ap (extracted c.args.netlist.now) (ap (λ (m : MachineData). m.prefix) c.in_ok-machine.ensures)
+pub of_ungated-requires-clause-none : goal.of_ungated-requires-clause-none
+of_ungated-requires-clause-none c = nothing c.args.netlist.gaters (omega (arith, c.gaters.ensures.count, c.if-gaters-eq0.true))

@@ -9,4 +9,4 @@ pub returns : goal.returns
 returns c =
     let gated = c.args.gated.now in
     c.from_vec.ensures ∙ (c.in_ok-text.ensures
-    ∙ ap (λ o. said_text (told gated.plan) o c.args.played.now) (c.told_outcomes-outcomes.ensures ∙ ap (λ (r : RequestData). told_outcomes r gated.hints.outcomes) c.request.view_is))
+    ∙ ap (λ o. said_text (told gated.plan) o c.args.played.now) (c.told_outcomes-outcomes.ensures ∙ ap (λ (r : RequestData). told_outcomes r gated.outcomes) c.request.view_is))

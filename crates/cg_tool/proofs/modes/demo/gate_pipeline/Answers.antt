@@ -10,9 +10,9 @@ use Rattle.cg_tool.specs.declared.modes.wanted.Wanted.{Wanted}
 use Rattle.cg_tool.proofs.DemoMeans.{demo_may}
 use Rattle.cg_tool.proofs.modes.demo.gate_pipeline.Goals as goal
 
-pub gate_by-requires-clause-may : goal.gate_by-requires-clause-may
-gate_by-requires-clause-may g c =
-    let p = c.args.pipeline.now in
+pub gate_by-result-requires-clause-may : goal.gate_by-result-requires-clause-may
+gate_by-result-requires-clause-may g c =
+    let p = c.args.pipeline in
     let N : Wanted → Type 0 = λ w. IsTrue (is_name w.prefix) in
     let W : Wanted → Type 0 = λ w. MayGate (request_by p.library w (Some p.stimulus) None) p.netlist in
     let M : RequestData → Type 0 = λ q. MayGate q p.netlist in
@@ -20,7 +20,7 @@ gate_by-requires-clause-may g c =
 
 pub returns : goal.returns
 returns g c =
-    let p = c.args.pipeline.now in
-    let P : RequestData → Type 0 = λ q. Concludes (option_map troubles.Limit (stops_at q p.netlist)) (PutsDemo c.args.size q p.netlist) c.gate_by.result in
+    let p = c.args.pipeline in
+    let P : RequestData → Type 0 = λ q. Concludes (option_map troubles.Limit (stops_at q p.netlist)) (PutsDemo c.args.size q p.netlist) c.gate_by-result.result in
     let W : Wanted → Type 0 = λ w. P (request_by p.library w (Some p.stimulus) None) in
-    subst W c.requires.wanted (subst P c.request-request.ensures c.gate_by.ensures)
+    subst W c.requires.wanted (subst P c.request-request.ensures c.gate_by-result.ensures)

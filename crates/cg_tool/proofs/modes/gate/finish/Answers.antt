@@ -10,14 +10,14 @@ use Rattle.cg_tool.specs.Watching.{Kind}
 use Rattle.cg_tool.specs.declared.modes.wanted.Wanted.{Wanted}
 use Rattle.cg_tool.proofs.modes.gate.finish.Goals as goal
 
-pub read-design-requires : goal.read-design-requires
-read-design-requires g c = has_design c.args.found MayBeGated c.requires
+pub read-requires : goal.read-requires
+read-requires g c = has_design c.args.found MayBeGated c.requires
 
-pub gate_design-result-requires : goal.gate_design-result-requires
-gate_design-result-requires g c = of_design (design_of c.args.found) c.read-design.result MayBeGated c.read-design.ensures c.requires
+pub gate_design-requires : goal.gate_design-requires
+gate_design-requires g c = of_design (design_of c.args.found) c.read.result MayBeGated c.read.ensures c.requires
 
 pub returns : goal.returns
 returns g c =
     let kind : Option Kind = option_map (λ w. (goal.Watcher-dyn g (w.vtable, w.value)).says w.value) c.args.watcher in
-    let P : Option (Design Wanted) → Type 0 = λ o. Concludes (option_and_then design_stops o) (λ output. IsSomeAnd o (λ design. design_gives kind design output)) c.gate_design-result.result in
-    subst P (sym c.read-design.ensures) c.gate_design-result.ensures
+    let P : Option (Design Wanted) → Type 0 = λ o. Concludes (option_and_then design_stops o) (λ output. IsSomeAnd o (λ design. design_gives kind design output)) c.gate_design.result in
+    subst P (sym c.read.ensures) c.gate_design.ensures

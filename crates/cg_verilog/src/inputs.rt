@@ -6,14 +6,18 @@ ghost use Rattle.cg_net.specs.Names.{is_known, with_name};
 ghost use Rattle.cg_verilog.specs.NamesSeen.{AreDifferent, names_seen};
 
 use cg_net::names::NetNames;
+use smallvec::SmallVec;
 use std::alloc::AllocError;
 use std::marker::Model;
+
+/// How many names take no memory of their own.
+pub const INLINE: usize = 4;
 
 /// The names of inputs: a few that are lent and looked through one by one, or a table of many.
 #[derive(Drop)]
 pub enum InputNames<'b> {
     /// A few.
-    Few(Vec<&'b [u8]>),
+    Few(SmallVec<&'b [u8], INLINE>),
 
     /// Many.
     Many(NetNames),
@@ -40,7 +44,7 @@ impl<'b> Model for Inputs<'b> {
 
 impl<'b> Inputs<'b> {
     /// A few names.
-    pub fn few(names: Vec<&'b [u8]>) -> Inputs<'b>
+    pub fn few(names: SmallVec<&'b [u8], INLINE>) -> Inputs<'b>
         requires { AreDifferent (map (λ name. name.now) names.items) }
         ensures { result ≡ map (λ name. name.now) names.entry.items }
     {
@@ -89,7 +93,7 @@ impl<'b> Inputs<'b> {
 }
 
 /// Puts a name behind some, unless it is one of them.
-pub fn put<'b>(names: &mut Vec<&'b [u8]>, name: &'b [u8]) -> Result<(), AllocError>
+pub fn put<'b>(names: &mut SmallVec<&'b [u8], INLINE>, name: &'b [u8]) -> Result<(), AllocError>
     ensures { OnOk result (map (λ name. name.now) names.new.items ≡ with_name (map (λ name. name.now) names.old.items) name.now) }
 {
     match place_among(names, name) {

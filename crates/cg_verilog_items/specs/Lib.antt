@@ -1,3 +1,4 @@
+pub mod Ahead
 pub mod Before
 pub mod FormParts
 pub mod FormSeen
@@ -6,3 +7,4 @@ pub mod ItemSeen
 pub mod Nets
 pub mod Readings
 pub mod Terms
+pub mod TermsSeen

@@ -1,15 +1,10 @@
 -- What reading functions answer.
-use Rattle.std.specs.Prelude.{◌≡◌, ℕ, Bool, true, false, List, [], ◌∷◌, Option, None, Some, Result, Ok, Err}
+use Rattle.std.specs.Prelude.{◌≡◌, ℕ, Bool, true, false, List, [], ◌∷◌, Result, Ok, Err}
 use Rattle.cg_verilog_text.specs.Items.{line_of}
 use Rattle.cg_verilog_text.specs.Reading.{Read, Got, Stuck}
 use Rattle.cg_verilog_text.specs.Tokens.{Token}
 use Rattle.cg_verilog_items.specs.declared.stop.Stop.{Stop}
 use Rattle.cg_verilog_items.specs.declared.stop.Stop.TheVariants.{At, NoMemory}
-
--- the next token before the others; behind none there is none
-abbrev pub ahead : Option Token → List Token → List Token
-ahead None later = []
-ahead (Some token) later = token ∷ later
 
 -- whether no token is left
 abbrev pub is_over : List Token → Bool

@@ -12,6 +12,7 @@ use crate::before::{Before, stands_before};
 use crate::reading::Reading;
 use crate::stop::Stop;
 use crate::term::{Literal, Term};
+use crate::terms::Terms;
 use cg_list::Seq;
 use std::alloc::{AllocError, Global};
 use std::marker::Model;
@@ -23,7 +24,7 @@ pub enum FormKind<'a> {
     Constant(bool),
 
     /// A sum of terms, or the inverse of one where the bit is false.
-    Sum(bool, Seq<Seq<Literal<'a>>>),
+    Sum(bool, Terms<'a>),
 
     /// Two literals that differ.
     Differ(Box<Pair<'a>>),
@@ -83,7 +84,7 @@ impl<'a> Form<'a> {
     }
 
     /// The form as a sum of terms.
-    pub fn into_terms(self, alloc: Global) -> Result<Seq<Seq<Literal<'a>>>, AllocError>
+    pub fn into_terms(self, alloc: Global) -> Result<Terms<'a>, AllocError>
         ensures terms { IfOk result (λ terms. terms ≡ terms_of self.entry) }
         ensures some { HasTerms self.entry }
     {
@@ -97,10 +98,7 @@ impl<'a> Form<'a> {
 }
 
 /// The terms of two literals that differ.
-fn differing_terms<'a>(
-    alloc: Global,
-    differing: Pair<'a>,
-) -> Result<Seq<Seq<Literal<'a>>>, AllocError>
+fn differing_terms<'a>(alloc: Global, differing: Pair<'a>) -> Result<Terms<'a>, AllocError>
     ensures { IfOk result (λ terms. terms ≡ terms_of (DifferSeen differing.entry.first differing.entry.second)) }
 {
     let Pair { first, second } = differing;
@@ -110,7 +108,7 @@ fn differing_terms<'a>(
 }
 
 /// The terms of a choice.
-fn choice_terms<'a>(alloc: Global, choice: Choice<'a>) -> Result<Seq<Seq<Literal<'a>>>, AllocError>
+fn choice_terms<'a>(alloc: Global, choice: Choice<'a>) -> Result<Terms<'a>, AllocError>
     ensures { IfOk result (λ terms. terms ≡ terms_of (ChoiceSeen choice.entry.condition choice.entry.chosen.first choice.entry.chosen.second)) }
 {
     let Choice { condition, chosen } = choice;
@@ -121,12 +119,12 @@ fn choice_terms<'a>(alloc: Global, choice: Choice<'a>) -> Result<Seq<Seq<Literal
 }
 
 /// The terms of a bit: an empty one, or none.
-fn constant_terms<'a>(alloc: Global, value: bool) -> Result<Seq<Seq<Literal<'a>>>, AllocError>
+fn constant_terms<'a>(alloc: Global, value: bool) -> Result<Terms<'a>, AllocError>
     ensures { IfOk result (λ terms. terms ≡ (if value then [] ∷ [] else [])) }
 {
-    let mut terms = Seq::new(alloc);
+    let mut terms = Terms::new(alloc);
     if value {
-        terms.push(Seq::new(alloc))?;
+        terms.push(alloc, Seq::new(alloc))?;
     }
     Ok(terms)
 }
@@ -150,12 +148,12 @@ fn pair_of_terms<'a>(
     alloc: Global,
     first: Seq<Literal<'a>>,
     second: Seq<Literal<'a>>,
-) -> Result<Seq<Seq<Literal<'a>>>, AllocError>
+) -> Result<Terms<'a>, AllocError>
     ensures { IfOk result (λ terms. terms ≡ first.entry ∷ second.entry ∷ []) }
 {
-    let mut terms = Seq::new(alloc);
-    terms.push(first)?;
-    terms.push(second)?;
+    let mut terms = Terms::new(alloc);
+    terms.push(alloc, first)?;
+    terms.push(alloc, second)?;
     Ok(terms)
 }
 
@@ -194,7 +192,7 @@ impl<'a> Reading<'a> {
         ensures end { self.new.1 ≡ self.old.1 }
         ensures left { IsRead self.old.1 (plain_sum self.old.0) self.new.0 result }
     {
-        let terms = self.sum(alloc, Seq::new(alloc))?;
+        let terms = self.sum(alloc, Terms::new(alloc))?;
         Ok(Form {
             kind: FormKind::Sum(true, terms),
         })
@@ -224,12 +222,12 @@ impl<'a> Reading<'a> {
     }
 
     /// Reads a sum and the `)`.
-    fn closed_sum(&mut self, alloc: Global) -> Result<Seq<Seq<Literal<'a>>>, Stop>
+    fn closed_sum(&mut self, alloc: Global) -> Result<Terms<'a>, Stop>
         ensures end { self.new.1 ≡ self.old.1 }
         ensures left { IsRead self.old.1 (ended_by 41 (sum [] self.old.0)) self.new.0 result }
         ensures some { IfOk result (λ terms. 0 < length terms) }
     {
-        let terms = self.sum(alloc, Seq::new(alloc))?;
+        let terms = self.sum(alloc, Terms::new(alloc))?;
         self.mark(b')')?;
         Ok(terms)
     }
@@ -320,11 +318,7 @@ impl<'a> Reading<'a> {
     }
 
     /// Reads the rest of the terms behind the first literal.
-    fn rest_of_terms(
-        &mut self,
-        alloc: Global,
-        first: Literal<'a>,
-    ) -> Result<Seq<Seq<Literal<'a>>>, Stop>
+    fn rest_of_terms(&mut self, alloc: Global, first: Literal<'a>) -> Result<Terms<'a>, Stop>
         ensures end { self.new.1 ≡ self.old.1 }
         ensures left { IsRead self.old.1 (rest_of_terms first.entry self.old.0) self.new.0 result }
     {
@@ -333,16 +327,12 @@ impl<'a> Reading<'a> {
     }
 
     /// Reads the rest of a sum behind its first term.
-    fn from_term(
-        &mut self,
-        alloc: Global,
-        term: Seq<Literal<'a>>,
-    ) -> Result<Seq<Seq<Literal<'a>>>, Stop>
+    fn from_term(&mut self, alloc: Global, term: Seq<Literal<'a>>) -> Result<Terms<'a>, Stop>
         ensures end { self.new.1 ≡ self.old.1 }
         ensures left { IsRead self.old.1 (from_term term.entry self.old.0) self.new.0 result }
     {
-        let mut terms = Seq::new(alloc);
-        terms.push(term)?;
+        let mut terms = Terms::new(alloc);
+        terms.push(alloc, term)?;
         if self.is_mark(b'|') {
             self.pass();
             return self.sum(alloc, terms);
@@ -365,11 +355,7 @@ impl<'a> Reading<'a> {
     }
 
     /// Reads one or more terms with a `|` between each two, behind some that were read.
-    fn sum(
-        &mut self,
-        alloc: Global,
-        before: Seq<Seq<Literal<'a>>>,
-    ) -> Result<Seq<Seq<Literal<'a>>>, Stop>
+    fn sum(&mut self, alloc: Global, before: Terms<'a>) -> Result<Terms<'a>, Stop>
         ensures end { self.new.1 ≡ self.old.1 }
         ensures left { IsRead self.old.1 (sum before.entry self.old.0) self.new.0 result }
         ensures some { IfOk result (λ terms. 0 < length terms) }
@@ -378,7 +364,7 @@ impl<'a> Reading<'a> {
         'terms: loop {
             match self.term(alloc) {
                 Err(stop) => return Err(stop),
-                Ok(term) => terms.push(term)?,
+                Ok(term) => terms.push(alloc, term)?,
             }
             if !self.is_mark(b'|') {
                 return Ok(terms);

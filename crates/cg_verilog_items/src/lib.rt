@@ -6,12 +6,13 @@
 //! The modules, in the order in which data flows through them:
 //!
 //! - [`stop`]: why nothing was read;
-//! - [`reading`]: reading tokens, with the next one at hand;
+//! - `ahead`, [`reading`]: reading tokens, with the next one at hand;
 //! - [`net`], `names`, [`declaration`]: reading nets, names with commas, and what is declared;
-//! - [`term`], `before`, [`form`]: reading what stands behind the `=` of an `assign`;
+//! - [`term`], [`terms`], `before`, [`form`]: reading what stands behind the `=` of an `assign`;
 //! - [`placed`], [`always`], [`item`]: reading an item.
 #![tactic(auto)]
 
+mod ahead;
 pub mod always;
 mod before;
 pub mod declaration;
@@ -23,3 +24,4 @@ pub mod placed;
 pub mod reading;
 pub mod stop;
 pub mod term;
+pub mod terms;

@@ -1,15 +1,18 @@
 //! Reading tokens one by one, with the next one at hand.
 
 ghost use Rattle.std.specs.Prelude.{◌≡◌, false, true, MatchOption};
+ghost use Rattle.std.specs.List.{list_any};
+ghost use Rattle.std.specs.Str.{bytes_eq};
 ghost use Rattle.cg_verilog_text.specs.Items.{line_of};
 ghost use Rattle.cg_verilog_text.specs.Reading.{behind, bit, is_arrow, is_bit, is_identifier, is_label, is_mark, is_next, is_numeral, is_plain, is_word};
-ghost use Rattle.cg_verilog_text.specs.Reading.{mark, name, pass, word};
+ghost use Rattle.cg_verilog_text.specs.Reading.{mark, name, ones, pass, word};
 ghost use Rattle.cg_verilog_items.specs.Readings.{IsPassed, IsRead, is_over, next_text};
 
+use crate::ahead::{Ahead, hold_next};
 use crate::stop::Stop;
 use cg_verilog_tokens::identifier::Identifier;
 use cg_verilog_tokens::numeral::Numeral;
-use cg_verilog_tokens::token::{Token, is_one};
+use cg_verilog_tokens::token::is_one;
 use cg_verilog_tokens::tokens::Tokens;
 use std::marker::Model;
 
@@ -34,13 +37,13 @@ impl<'a> Model for Piece<'a> {
 #[derive(Drop)]
 pub struct Reading<'a> {
     tokens: Tokens<'a>,
-    next: Option<Token<'a>>,
+    next: Ahead<'a>,
 }
 
 impl<'a> Model for Reading<'a> {
     ghost use Rattle.std.specs.Prelude.{List, ℕ};
     ghost use Rattle.cg_verilog_text.specs.Tokens.{Token as TokenSeen};
-    ghost use Rattle.cg_verilog_items.specs.Readings.{ahead};
+    ghost use Rattle.cg_verilog_items.specs.Ahead.{ahead};
 
     ghost Value = { List TokenSeen × ℕ };
 
@@ -54,7 +57,8 @@ impl<'a> Reading<'a> {
         ensures end { result.1 ≡ tokens.entry.1 }
     {
         let mut tokens = tokens;
-        let next = tokens.next();
+        let mut next = Ahead::Over;
+        hold_next(&mut tokens, &mut next);
         Reading { tokens, next }
     }
 
@@ -63,8 +67,9 @@ impl<'a> Reading<'a> {
         ensures { result ≡ line_of self.now.1 self.now.0 }
     {
         match &self.next {
-            None => self.tokens.end(),
-            Some(token) => token.line(),
+            Ahead::Over => self.tokens.end(),
+            Ahead::Mark(mark) => mark.line,
+            Ahead::Token(token) => token.line(),
         }
     }
 
@@ -72,17 +77,7 @@ impl<'a> Reading<'a> {
     pub fn is_over(&self) -> bool
         ensures { result ≡ is_over self.now.0 }
     {
-        self.next.is_none()
-    }
-
-    /// The bytes of the next token; none where there is no token.
-    pub fn text(&self) -> &'a [u8]
-        ensures { result.now ≡ next_text self.now.0 }
-    {
-        match &self.next {
-            None => &[],
-            Some(token) => token.text(),
-        }
+        matches!(self.next, Ahead::Over)
     }
 
     /// Passes over the next token.
@@ -90,8 +85,8 @@ impl<'a> Reading<'a> {
         ensures left { self.new.0 ≡ behind self.old.0 }
         ensures end { self.new.1 ≡ self.old.1 }
     {
-        if self.next.is_some() {
-            self.next = self.tokens.next();
+        if !self.is_over() {
+            hold_next(&mut self.tokens, &mut self.next);
         }
     }
 
@@ -100,8 +95,9 @@ impl<'a> Reading<'a> {
         ensures { result ≡ is_next (is_mark byte) self.now.0 }
     {
         match &self.next {
-            None => false,
-            Some(token) => token.is_mark(byte),
+            Ahead::Over => false,
+            Ahead::Mark(mark) => mark.byte == byte,
+            Ahead::Token(token) => token.is_mark(byte),
         }
     }
 
@@ -110,8 +106,8 @@ impl<'a> Reading<'a> {
         ensures { result ≡ is_next (is_word word.now) self.now.0 }
     {
         match &self.next {
-            None => false,
-            Some(token) => token.is_word(word),
+            Ahead::Token(token) => token.is_word(word),
+            _ => false,
         }
     }
 
@@ -120,8 +116,8 @@ impl<'a> Reading<'a> {
         ensures { result ≡ is_next is_arrow self.now.0 }
     {
         match &self.next {
-            None => false,
-            Some(token) => token.is_arrow(),
+            Ahead::Token(token) => token.is_arrow(),
+            _ => false,
         }
     }
 
@@ -130,8 +126,8 @@ impl<'a> Reading<'a> {
         ensures { result ≡ is_next is_plain self.now.0 }
     {
         match &self.next {
-            None => false,
-            Some(token) => token.is_plain(),
+            Ahead::Token(token) => token.is_plain(),
+            _ => false,
         }
     }
 
@@ -141,18 +137,21 @@ impl<'a> Reading<'a> {
             (λ word. (is_next is_identifier self.now.0 ≡ true) × (word ≡ next_text self.now.0)) }
     {
         match &self.next {
-            None => None,
-            Some(token) => token.identifier(),
+            Ahead::Token(token) => token.identifier(),
+            _ => None,
         }
     }
 
-    /// Whether the next token may name an instance.
-    fn is_label(&self) -> bool
-        ensures { result ≡ is_next is_label self.now.0 }
+    /// The bytes of the next token, if it may name an instance.
+    fn next_label(&self) -> Option<Piece<'a>>
+        ensures { MatchOption result (is_next is_label self.now.0 ≡ false)
+            (λ label. (is_next is_label self.now.0 ≡ true) × (label ≡ next_text self.now.0)) }
     {
         match &self.next {
-            None => false,
-            Some(token) => token.is_label(),
+            Ahead::Token(token) if token.is_label() => Some(Piece {
+                bytes: token.text(),
+            }),
+            _ => None,
         }
     }
 
@@ -162,8 +161,8 @@ impl<'a> Reading<'a> {
             (λ numeral. (is_next is_numeral self.now.0 ≡ true) × (numeral ≡ next_text self.now.0)) }
     {
         match &self.next {
-            None => None,
-            Some(token) => token.numeral(),
+            Ahead::Token(token) => token.numeral(),
+            _ => None,
         }
     }
 
@@ -172,8 +171,19 @@ impl<'a> Reading<'a> {
         ensures { result ≡ is_next is_bit self.now.0 }
     {
         match &self.next {
-            None => false,
-            Some(token) => token.is_bit(),
+            Ahead::Token(token) => token.is_bit(),
+            _ => false,
+        }
+    }
+
+    /// The next token as a bit, if it is one.
+    fn next_bit(&self) -> Option<bool>
+        ensures { MatchOption result (is_next is_bit self.now.0 ≡ false)
+            (λ one. (is_next is_bit self.now.0 ≡ true) × (one ≡ list_any (bytes_eq (next_text self.now.0)) ones)) }
+    {
+        match &self.next {
+            Ahead::Token(token) if token.is_bit() => Some(is_one(token.text())),
+            _ => None,
         }
     }
 
@@ -232,12 +242,13 @@ impl<'a> Reading<'a> {
         ensures end { self.new.1 ≡ self.old.1 }
         ensures left { IsRead self.old.1 (pass is_label self.old.0) self.new.0 result }
     {
-        if !self.is_label() {
-            return Err(Stop::At(self.line()));
+        match self.next_label() {
+            None => Err(Stop::At(self.line())),
+            Some(label) => {
+                self.pass();
+                Ok(label)
+            }
         }
-        let bytes = self.text();
-        self.pass();
-        Ok(Piece { bytes })
     }
 
     /// Reads a number.
@@ -259,11 +270,12 @@ impl<'a> Reading<'a> {
         ensures end { self.new.1 ≡ self.old.1 }
         ensures left { IsRead self.old.1 (bit self.old.0) self.new.0 result }
     {
-        if !self.is_bit() {
-            return Err(Stop::At(self.line()));
+        match self.next_bit() {
+            None => Err(Stop::At(self.line())),
+            Some(one) => {
+                self.pass();
+                Ok(one)
+            }
         }
-        let one = is_one(self.text());
-        self.pass();
-        Ok(one)
     }
 }

@@ -57,6 +57,16 @@ impl<'a> Literal<'a> {
 /// How many literals a term may have before its nets are kept in a table: fewer are looked through one by one.
 const MOST_WITHOUT_TABLE: usize = 16;
 
+/// The table of the nets of a term.
+#[derive(Drop)]
+pub enum Table {
+    /// A term of so few literals has none.
+    Without,
+
+    /// Its nets. They stand in a box, since few terms have them.
+    With(Box<NetNames>),
+}
+
 /// The literals of a term, as far as it was read.
 ///
 /// Clauses see the literals. A long term has a table of its nets, so that a net that comes again is found without a look at
@@ -64,7 +74,7 @@ const MOST_WITHOUT_TABLE: usize = 16;
 #[derive(Drop)]
 pub struct Term<'a> {
     literals: Seq<Literal<'a>>,
-    table: NetNames,
+    table: Table,
 }
 
 impl<'a> Model for Term<'a> {
@@ -86,7 +96,7 @@ impl<'a> Term<'a> {
     {
         Term {
             literals: Seq::new(alloc),
-            table: NetNames::new(alloc),
+            table: Table::Without,
         }
     }
 
@@ -102,6 +112,7 @@ impl<'a> Term<'a> {
         requires { length self.old < MOST_WITHOUT_TABLE }
         ensures { OnOk result (self.new ≡ self.old ++ literal.entry ∷ []) }
     {
+        self.table = Table::Without;
         self.literals.push(literal)?;
         Ok(())
     }
@@ -128,10 +139,10 @@ impl<'a> Term<'a> {
     pub fn has(&self, net: &[u8]) -> bool
         ensures { result ≡ list_any (λ literal. bytes_eq literal.net net.now) self.now }
     {
-        if self.literals.len() <= MOST_WITHOUT_TABLE {
-            return is_among(self.literals.as_slice(), net);
+        match &self.table {
+            Table::Without => is_among(self.literals.as_slice(), net),
+            Table::With(table) => table.find(net).is_some(),
         }
-        self.table.find(net).is_some()
     }
 }
 
@@ -145,36 +156,37 @@ fn is_among(literals: &[Literal<'_>], net: &[u8]) -> bool
 /// The table of a term that gets one literal more.
 fn table_with(
     alloc: Global,
-    table: NetNames,
+    table: Table,
     literals: &[Literal<'_>],
     next: &Literal<'_>,
-) -> Result<NetNames, AllocError>
+) -> Result<Table, AllocError>
     requires { HasTable literals.now table }
     ensures { IfOk result (λ table. HasTable (literals.now ++ next.now ∷ []) table) }
 {
     if literals.len() < MOST_WITHOUT_TABLE {
-        return Ok(table);
+        return Ok(Table::Without);
     }
-    let full = full_table(alloc, table, literals)?;
-    let mut table = full;
+    let mut table = full_table(alloc, table, literals)?;
     table.intern(alloc, next.net.bytes())?;
-    Ok(table)
+    Ok(Table::With(table))
 }
 
 /// The table of so many literals that they have one: it is made when there are as many for the first time.
 fn full_table(
     alloc: Global,
-    table: NetNames,
+    table: Table,
     literals: &[Literal<'_>],
-) -> Result<NetNames, AllocError>
-    requires many { MOST_WITHOUT_TABLE ≤ length literals.now }
-    requires table { HasTable literals.now table }
-    ensures { IfOk result (AreKnown literals.now) }
+) -> Result<Box<NetNames>, AllocError>
+    requires { HasTable literals.now table }
+    ensures { IfOk result (λ table. AreKnown literals.now table.value) }
 {
-    if literals.len() == MOST_WITHOUT_TABLE {
-        return table_of(alloc, literals);
+    match table {
+        Table::With(table) => Ok(table),
+        Table::Without => {
+            let table = table_of(alloc, literals)?;
+            Ok(Box::new(alloc, table)?)
+        }
     }
-    Ok(table)
 }
 
 /// A table of the nets of literals.

@@ -1,4 +1,5 @@
 pub mod Beginnings
+pub mod Marks
 pub mod Passing
 pub mod PlainNames
 pub mod Runs

@@ -1,11 +1,11 @@
 //! What begins at a byte of a text.
 
-ghost use Rattle.std.specs.Prelude.{◌≡◌, ◌+◌, ◌<◌, ◌≤◌, ◌==◌, ℕ, false, length, not, slice_index, take, IfSome};
+ghost use Rattle.std.specs.Prelude.{◌≡◌, ◌+◌, ◌<◌, ◌≤◌, ◌==◌, Bool, ℕ, false, true, length, not, slice_index, take, IfSome};
 ghost use Rattle.cg_scan.specs.Runs.{is_blank_or};
 ghost use Rattle.cg_text.specs.Blanks.{is_white_space};
 ghost use Rattle.cg_verilog_text.specs.Lexeme.{based_length, closed, closed_by, closing_length, is_digit, is_in_number, is_in_word, is_letter};
 ghost use Rattle.cg_verilog_text.specs.Lexeme.{is_mark_byte, lexeme, run_length, skips_line};
-ghost use Rattle.cg_verilog_text.specs.declared.kind.Kind.TheVariants.{Escaped};
+ghost use Rattle.cg_verilog_text.specs.declared.kind.Kind.TheVariants.{Escaped, Mark};
 ghost use Rattle.cg_verilog_text.specs.declared.lexeme.Lexeme.TheVariants.{Token};
 ghost use Rattle.cg_verilog_tokens.specs.Beginnings.{IsEscapedName, IsWithin, begun, is_lone_mark};
 ghost use Rattle.cg_verilog_tokens.specs.PlainNames.{IsNamedIf, IsPlainName};
@@ -193,6 +193,7 @@ fn are_name(bytes: &[u8], count: usize) -> bool
 }
 
 /// One of the bytes that are tokens by themselves, whatever stands behind them.
+#[inline(always)]
 fn is_lone_mark(byte: u8) -> bool
     ensures { result ≡ is_lone_mark byte }
 {
@@ -211,6 +212,14 @@ fn is_lone_mark(byte: u8) -> bool
                                                     || (byte == b'?' || byte == b'@'))))))))))))
 }
 
+/// Whether a byte is seen to be a mark at once.
+#[inline(always)]
+pub fn is_seen_mark(byte: u8, after: &[u8]) -> bool
+    ensures { result ≡ true → (fresh : Bool) → lexeme fresh byte after.now ≡ Token Mark 0 }
+{
+    is_lone_mark(byte) || (byte == b'(' && !begins_with(after, b'*'))
+}
+
 /// What begins at a byte, with what stands after it; `fresh`: only blanks stand before it on its line. What is most often met is
 /// looked for first.
 #[tactic(auto, using(crate::proofs::CommonLexemes::escaped_lexeme, crate::proofs::CommonLexemes::open_lexeme))]
@@ -222,9 +231,7 @@ pub fn lexeme(fresh: bool, byte: u8, after: &[u8]) -> Begun
 {
     if byte == b'\\' {
         escaped(after)
-    } else if is_lone_mark(byte) {
-        Begun::Token(Kind::Mark, 0)
-    } else if byte == b'(' && !begins_with(after, b'*') {
+    } else if is_seen_mark(byte, after) {
         Begun::Token(Kind::Mark, 0)
     } else {
         rarer_lexeme(fresh, byte, after)

@@ -7,13 +7,14 @@
 //! The modules, in the order in which data flows through them:
 //!
 //! - `lexeme`: what begins at a byte of a text;
-//! - [`identifier`], [`numeral`]: names and numbers, as they are written;
+//! - [`identifier`], [`numeral`], [`mark`]: names, numbers and marks, as they are written;
 //! - [`token`]: a token, and what it is;
 //! - [`tokens`]: the tokens of a text, one after another.
 #![tactic(auto)]
 
 pub mod identifier;
 mod lexeme;
+pub mod mark;
 pub mod numeral;
 pub mod token;
 pub mod tokens;

@@ -6,9 +6,11 @@ ghost use Rattle.cg_text.specs.Blanks.{is_white_space};
 ghost use Rattle.cg_text.specs.Lines.{end_line};
 ghost use Rattle.cg_text.specs.Words.{lines};
 ghost use Rattle.cg_verilog_text.specs.Tokens.{next_line, stays_fresh, token_text, tokens};
+ghost use Rattle.cg_verilog_tokens.specs.Marks.{mark_token};
 ghost use Rattle.cg_verilog_tokens.specs.Passing.{passed_fresh, passed_line};
 
-use crate::lexeme::{Begun, lexeme};
+use crate::lexeme::{Begun, is_seen_mark, lexeme};
+use crate::mark::Mark;
 use crate::token::Token;
 use cg_scan::first::first_at;
 use cg_text::blanks::is_white_space;
@@ -67,6 +69,26 @@ impl<'a> Tokens<'a> {
         line_behind(self.text)
     }
 
+    /// Takes the next token if its first byte tells that it is a mark; else it takes none.
+    #[inline(always)]
+    pub fn next_mark(&mut self) -> Option<Mark>
+        ensures mark { MatchOption result (self.new ≡ self.old) (λ mark. self.old.0 ≡ mark_token mark ∷ self.new.0) }
+        ensures end { self.new.1 ≡ self.old.1 }
+    {
+        self.skip_blanks();
+        match first_of(self.rest) {
+            Some(first) if is_seen_mark(first.byte, first.rest) => {
+                self.rest = first.rest;
+                self.fresh = false;
+                Some(Mark {
+                    line: self.line,
+                    byte: first.byte,
+                })
+            }
+            _ => None,
+        }
+    }
+
     /// Takes the next token, or nothing where the text ends.
     pub fn next(&mut self) -> Option<Token<'a>>
         ensures token { MatchOption result ((self.old.0 ≡ []) × (self.new.0 ≡ [])) (λ token. self.old.0 ≡ token ∷ self.new.0) }
@@ -104,6 +126,7 @@ impl<'a> Tokens<'a> {
     }
 
     /// Passes over the blanks at the front.
+    #[inline(always)]
     fn skip_blanks(&mut self)
         ensures { self.new ≡ self.old }
     {
@@ -192,6 +215,9 @@ fn next_place(place: Place, byte: u8) -> Place
     ensures line { result.line ≡ next_line place.line byte }
     ensures fresh { result.fresh ≡ stays_fresh place.fresh byte }
 {
+    if byte == b' ' {
+        return place;
+    }
     if byte == b'\n' {
         return Place {
             line: place.line + 1,

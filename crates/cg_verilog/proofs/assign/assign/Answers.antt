@@ -30,8 +30,8 @@ returns c =
     let few : length inputs ≤ MOST_COVER_INPUTS = omega arith in
     let narrow : nat_lt MOST_COVER_INPUTS (length inputs) ≡ false = grind (arith, nat_tests) in
     let named : inputs ≡ once bytes_eq (flat_map (λ (term : List (Literal NetName)). map (λ (l : Literal NetName). l.net) term) terms) =
-    c.in_ok-inputs.ensures.names ∙ ap (λ (ts : List (List (Literal NetName))). once bytes_eq (flat_map (λ (term : List (Literal NetName)). map (λ (l : Literal NetName). l.net) term) ts)) c.as_slice.ensures.parts in
-    let rows : c.in_ok-rows_of.field-0 ≡ map (row_of bytes_eq inputs) terms = c.in_ok-rows_of.ensures ∙ ap (map (row_of bytes_eq inputs)) c.as_slice-2.ensures.parts in
+    c.in_ok-inputs.ensures.names ∙ ap (λ (ts : List (List (Literal NetName))). once bytes_eq (flat_map (λ (term : List (Literal NetName)). map (λ (l : Literal NetName). l.net) term) ts)) c.as_slice.ensures in
+    let rows : c.in_ok-rows_of.field-0 ≡ map (row_of bytes_eq inputs) terms = c.in_ok-rows_of.ensures ∙ ap (map (row_of bytes_eq inputs)) c.as_slice-2.ensures in
     let cover : c.new-cover.result ≡ cover_with inputs terms (on_of form) =
     c.new-cover.ensures ∙ (ap (λ (rs : List (List (Option Bool))). cover_of rs c.on-on.result) rows ∙ ap (cover_with inputs terms) c.on-on.ensures) in
     subst (λ (r : Result (Unit {0}) Refusal). HearsItem old new (cover_part (form_cell bytes_eq output form)) r) (sym c.heard.ensures)

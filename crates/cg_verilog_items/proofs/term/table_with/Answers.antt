@@ -6,7 +6,10 @@ use Rattle.cg_verilog_items.proofs.KnownNets.{known_more}
 use Rattle.cg_verilog_items.proofs.term.table_with.Goals as goal
 
 pub returns : goal.returns
-returns c = λ many.
+returns c =
+    let names = c.in_ok-table.table.value in
     subst (λ (table : List NetName). AreKnown (c.args.literals.now ++ c.args.next.now ∷ []) table)
-    (sym (c.in_ok-intern.ensures.names ∙ ap (with_name c.in_ok-full.full) (c.bytes.ensures.bytes ∙ ap (λ (k : Literal NetName). k.net) c.next.view_is)))
-    (known_more c.args.literals.now c.args.next.now c.in_ok-full.full c.in_ok-full.ensures)
+    (sym (c.in_ok-intern.ensures.names
+    ∙ (ap (λ (before : List NetName). with_name before c.bytes.result.now) c.deref_mut.ensures.value
+    ∙ ap (with_name names) (c.bytes.ensures.bytes ∙ ap (λ (k : Literal NetName). k.net) c.next.view_is))))
+    (known_more c.args.literals.now c.args.next.now names c.in_ok-table.ensures)

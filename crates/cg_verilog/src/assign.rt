@@ -63,7 +63,7 @@ fn tell_cover(
     ensures { Hears builder.old builder.new (with_parts (LogicPart (cell_of inputs.now output.now (CoverFunction cover)) ∷ []) builder.old.said) result }
 {
     match inputs.names() {
-        InputNames::Few(names) => tell_names(builder, names, output, cover),
+        InputNames::Few(names) => tell_names(builder, names.as_slice(), output, cover),
         InputNames::Many(names) => {
             let names = lent(alloc, names)?;
             tell_names(builder, &names, output, cover)

@@ -9,11 +9,12 @@ ghost use Rattle.cg_verilog_text.specs.Forms.{Literal as LiteralSeen};
 ghost use Rattle.cg_verilog_text.specs.Meaning.{bit_in, once, row_of};
 ghost use Rattle.cg_verilog.specs.declared.cover.TheConstants.{FEW};
 
-use crate::inputs::{Inputs, put};
+use crate::inputs::{INLINE, Inputs, put};
 use cg_cell::rows::CoverRows;
 use cg_list::Seq;
 use cg_net::names::NetNames;
 use cg_verilog_items::term::Literal;
+use smallvec::SmallVec;
 use std::alloc::{AllocError, Global};
 
 /// How many terms a form of a few has at most, and how many literals each.
@@ -45,11 +46,11 @@ fn are_short(terms: &[Seq<Literal<'_>>]) -> bool
 }
 
 /// The nets of a few terms, each once, where it stands first.
-fn few_of<'b>(alloc: Global, terms: &'b [Seq<Literal<'_>>]) -> Result<Vec<&'b [u8]>, AllocError>
+fn few_of<'b>(alloc: Global, terms: &'b [Seq<Literal<'_>>]) -> Result<SmallVec<&'b [u8], INLINE>, AllocError>
     ensures names { IfOk result (λ names. map (λ name. name.now) names.items ≡ once bytes_eq (flat_map (λ term. map (λ literal. literal.net) term) terms.entry.now)) }
     ensures named { IfOk result (λ names. AllByRecursion (λ name. IsTrue (is_name name)) (map (λ name. name.now) names.items)) }
 {
-    let mut names = Vec::new(alloc);
+    let mut names = SmallVec::new(alloc);
     'terms: for term in terms {
         names = with_few(names, term.as_slice())?;
     }
@@ -57,7 +58,7 @@ fn few_of<'b>(alloc: Global, terms: &'b [Seq<Literal<'_>>]) -> Result<Vec<&'b [u
 }
 
 /// Names, and the nets of literals that are not among them.
-fn with_few<'b>(before: Vec<&'b [u8]>, term: &'b [Literal<'_>]) -> Result<Vec<&'b [u8]>, AllocError>
+fn with_few<'b>(before: SmallVec<&'b [u8], INLINE>, term: &'b [Literal<'_>]) -> Result<SmallVec<&'b [u8], INLINE>, AllocError>
     requires { AllByRecursion (λ name. IsTrue (is_name name)) (map (λ name. name.now) before.items) }
     ensures names { IfOk result (λ names. map (λ name. name.now) names.items ≡ with_names (map (λ name. name.now) before.entry.items) (map (λ literal. literal.net) term.entry.now)) }
     ensures named { IfOk result (λ names. AllByRecursion (λ name. IsTrue (is_name name)) (map (λ name. name.now) names.items)) }
@@ -121,20 +122,20 @@ fn make_row(
 {
     row.clear();
     row.resize(inputs.len(), None)?;
-    'literals: for literal in term {
-        put_literal(row, inputs, literal);
+    'literals: for (i, literal) in term.iter().enumerate() {
+        put_literal(row, inputs, literal, i);
     }
     Ok(())
 }
 
 /// Puts the bit of a literal at the place of its net, unless there is one.
-fn put_literal(row: &mut [Option<bool>], inputs: &Inputs<'_>, literal: &Literal<'_>)
+fn put_literal(row: &mut [Option<bool>], inputs: &Inputs<'_>, literal: &Literal<'_>, near: usize)
     requires { length row.old ≡ length inputs.now }
     ensures { (before : List (LiteralSeen NetName)) → row.old ≡ map (bit_in bytes_eq before) inputs.now
         → row.new ≡ map (bit_in bytes_eq (before ++ literal.now ∷ [])) inputs.now }
 {
     let _different = inputs.len();
-    match inputs.find(literal.net.bytes()) {
+    match inputs.find_near(literal.net.bytes(), near) {
         None => {}
         Some(place) => put_bit(row, place, literal.plain),
     }

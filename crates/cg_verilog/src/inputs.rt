@@ -6,14 +6,18 @@ ghost use Rattle.cg_net.specs.Names.{is_known, with_name};
 ghost use Rattle.cg_verilog.specs.NamesSeen.{AreDifferent, names_seen};
 
 use cg_net::names::NetNames;
+use smallvec::SmallVec;
 use std::alloc::AllocError;
 use std::marker::Model;
+
+/// How many names take no memory of their own.
+pub const INLINE: usize = 4;
 
 /// The names of inputs: a few that are lent and looked through one by one, or a table of many.
 #[derive(Drop)]
 pub enum InputNames<'b> {
     /// A few.
-    Few(Vec<&'b [u8]>),
+    Few(SmallVec<&'b [u8], INLINE>),
 
     /// Many.
     Many(NetNames),
@@ -40,7 +44,7 @@ impl<'b> Model for Inputs<'b> {
 
 impl<'b> Inputs<'b> {
     /// A few names.
-    pub fn few(names: Vec<&'b [u8]>) -> Inputs<'b>
+    pub fn few(names: SmallVec<&'b [u8], INLINE>) -> Inputs<'b>
         requires { AreDifferent (map (λ name. name.now) names.items) }
         ensures { result ≡ map (λ name. name.now) names.entry.items }
     {
@@ -75,7 +79,17 @@ impl<'b> Inputs<'b> {
         ensures { MatchOption result (is_known self.now name.now ≡ false) (λ i. slice_get self.now i ≡ Some name.now) }
     {
         match &self.names {
-            InputNames::Few(names) => place_among(names, name),
+            InputNames::Few(names) => place_among(names.as_slice(), name),
+            InputNames::Many(names) => names.find(name),
+        }
+    }
+
+    /// The place of a name, or `None` where it is none of these. It is looked for at a place where it may stand first.
+    pub fn find_near(&self, name: &[u8], near: usize) -> Option<usize>
+        ensures { MatchOption result (is_known self.now name.now ≡ false) (λ i. slice_get self.now i ≡ Some name.now) }
+    {
+        match &self.names {
+            InputNames::Few(names) => place_near(names.as_slice(), name, near),
             InputNames::Many(names) => names.find(name),
         }
     }
@@ -89,16 +103,27 @@ impl<'b> Inputs<'b> {
 }
 
 /// Puts a name behind some, unless it is one of them.
-pub fn put<'b>(names: &mut Vec<&'b [u8]>, name: &'b [u8]) -> Result<(), AllocError>
+pub fn put<'b>(names: &mut SmallVec<&'b [u8], INLINE>, name: &'b [u8]) -> Result<(), AllocError>
     ensures { OnOk result (map (λ name. name.now) names.new.items ≡ with_name (map (λ name. name.now) names.old.items) name.now) }
 {
-    match place_among(names, name) {
+    match place_among(names.as_slice(), name) {
         Some(_) => Ok(()),
         None => {
             names.push(name)?;
             Ok(())
         }
     }
+}
+
+/// The place of a name among some, or `None` where it is none of these. It is looked for at a place where it may stand first.
+fn place_near(names: &[&[u8]], name: &[u8], near: usize) -> Option<usize>
+    ensures { MatchOption result (is_known (map (λ name. name.now) names.now) name.now ≡ false)
+        (λ i. slice_get (map (λ name. name.now) names.now) i ≡ Some name.now) }
+{
+    if near < names.len() && names[near] == name {
+        return Some(near);
+    }
+    place_among(names, name)
 }
 
 /// The place of a name among some, or `None` where it is none of these.

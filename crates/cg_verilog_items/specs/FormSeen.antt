@@ -8,8 +8,8 @@ use Rattle.cg_verilog_items.specs.declared.form.FormKind.TheVariants.{Constant, 
 abbrev pub form_seen : FormKind → Form (List ℕ)
 form_seen (Constant value) = forms.Constant value
 form_seen (Sum on terms) = forms.Sum on terms
-form_seen (Differ first second) = forms.Differ first second
-form_seen (Choice first second third) = forms.Choice first second third
+form_seen (Differ pair) = forms.Differ pair.value.first pair.value.second
+form_seen (Choice choice) = forms.Choice choice.value.condition choice.value.chosen.first choice.value.chosen.second
 
 -- a form that is 0 where a term is has a term
 abbrev pub HasTerms : Form (List ℕ) → Type 0

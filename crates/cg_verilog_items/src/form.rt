@@ -1,7 +1,7 @@
 //! Reading what stands behind the `=` of an `assign`.
 
 ghost use Rattle.std.specs.Prelude.{◌≡◌, ◌∷◌, ◌<◌, [], true, false, if◌then◌else◌, length, IfOk};
-ghost use Rattle.cg_verilog_text.specs.Forms.{choosing, differing, form, fresh_literal, from_literal, literal, on_of, product, rest_of_sum, rest_of_term, sum, term, terms_of};
+ghost use Rattle.cg_verilog_text.specs.Forms.{Choice as ChoiceSeen, Differ as DifferSeen, choosing, differing, form, fresh_literal, from_literal, literal, on_of, product, rest_of_sum, rest_of_term, sum, term, terms_of};
 ghost use Rattle.cg_verilog_text.specs.Reading.{after, ended_by};
 ghost use Rattle.cg_verilog_items.specs.FormParts.{constant, from_term, inverted_form, inverted_sum, plain_sum, rest_of_terms};
 ghost use Rattle.cg_verilog_items.specs.FormSeen.{HasTerms};
@@ -12,6 +12,7 @@ use crate::before::{Before, stands_before};
 use crate::reading::Reading;
 use crate::stop::Stop;
 use crate::term::{Literal, Term};
+use crate::terms::Terms;
 use cg_list::Seq;
 use std::alloc::{AllocError, Global};
 use std::marker::Model;
@@ -23,13 +24,33 @@ pub enum FormKind<'a> {
     Constant(bool),
 
     /// A sum of terms, or the inverse of one where the bit is false.
-    Sum(bool, Seq<Seq<Literal<'a>>>),
+    Sum(bool, Terms<'a>),
 
     /// Two literals that differ.
-    Differ(Literal<'a>, Literal<'a>),
+    Differ(Box<Pair<'a>>),
 
-    /// A choice by the first literal of the second or the third.
-    Choice(Literal<'a>, Literal<'a>, Literal<'a>),
+    /// A choice by a literal of the first or the second of two.
+    Choice(Box<Choice<'a>>),
+}
+
+/// Two literals. They stand in a box where they make a form, since most forms are sums, and a form is handed on by value.
+#[derive(Drop)]
+pub struct Pair<'a> {
+    /// The first.
+    pub first: Literal<'a>,
+
+    /// The second.
+    pub second: Literal<'a>,
+}
+
+/// A literal that chooses one of two.
+#[derive(Drop)]
+pub struct Choice<'a> {
+    /// The literal that chooses.
+    pub condition: Literal<'a>,
+
+    /// What it chooses from, the first where it is 1.
+    pub chosen: Pair<'a>,
 }
 
 /// A form.
@@ -63,40 +84,58 @@ impl<'a> Form<'a> {
     }
 
     /// The form as a sum of terms.
-    pub fn into_terms(self, alloc: Global) -> Result<Seq<Seq<Literal<'a>>>, AllocError>
+    pub fn into_terms(self, alloc: Global) -> Result<Terms<'a>, AllocError>
         ensures terms { IfOk result (λ terms. terms ≡ terms_of self.entry) }
         ensures some { HasTerms self.entry }
     {
         match self.kind {
             FormKind::Constant(value) => constant_terms(alloc, value),
             FormKind::Sum(_, terms) => Ok(terms),
-            FormKind::Differ(first, second) => {
-                let one = pair(alloc, first.copied(alloc)?, second.inverse(alloc)?)?;
-                let other = pair(alloc, first.inverse(alloc)?, second)?;
-                pair_of_terms(alloc, one, other)
-            }
-            FormKind::Choice(condition, first, second) => {
-                let one = pair(alloc, condition.copied(alloc)?, first)?;
-                let other = pair(alloc, condition.inverse(alloc)?, second)?;
-                pair_of_terms(alloc, one, other)
-            }
+            FormKind::Differ(pair) => differing_terms(alloc, Box::into_inner(pair)),
+            FormKind::Choice(choice) => choice_terms(alloc, Box::into_inner(choice)),
         }
     }
 }
 
+/// The terms of two literals that differ.
+fn differing_terms<'a>(
+    alloc: Global,
+    differing: Pair<'a>,
+) -> Result<Terms<'a>, AllocError>
+    ensures { IfOk result (λ terms. terms ≡ terms_of (DifferSeen differing.entry.first differing.entry.second)) }
+{
+    let Pair { first, second } = differing;
+    let one = two_literals(alloc, first.copied(alloc)?, second.inverse(alloc)?)?;
+    let other = two_literals(alloc, first.inverse(alloc)?, second)?;
+    pair_of_terms(alloc, one, other)
+}
+
+/// The terms of a choice.
+fn choice_terms<'a>(
+    alloc: Global,
+    choice: Choice<'a>,
+) -> Result<Terms<'a>, AllocError>
+    ensures { IfOk result (λ terms. terms ≡ terms_of (ChoiceSeen choice.entry.condition choice.entry.chosen.first choice.entry.chosen.second)) }
+{
+    let Choice { condition, chosen } = choice;
+    let Pair { first, second } = chosen;
+    let one = two_literals(alloc, condition.copied(alloc)?, first)?;
+    let other = two_literals(alloc, condition.inverse(alloc)?, second)?;
+    pair_of_terms(alloc, one, other)
+}
+
 /// The terms of a bit: an empty one, or none.
-fn constant_terms<'a>(alloc: Global, value: bool) -> Result<Seq<Seq<Literal<'a>>>, AllocError>
+fn constant_terms<'a>(alloc: Global, value: bool) -> Result<Terms<'a>, AllocError>
     ensures { IfOk result (λ terms. terms ≡ (if value then [] ∷ [] else [])) }
 {
-    let mut terms = Seq::new(alloc);
     if value {
-        terms.push(Seq::new(alloc))?;
+        return Ok(Terms::one(Seq::new(alloc)));
     }
-    Ok(terms)
+    Ok(Terms::new(alloc))
 }
 
 /// Two literals.
-fn pair<'a>(
+fn two_literals<'a>(
     alloc: Global,
     first: Literal<'a>,
     second: Literal<'a>,
@@ -114,13 +153,10 @@ fn pair_of_terms<'a>(
     alloc: Global,
     first: Seq<Literal<'a>>,
     second: Seq<Literal<'a>>,
-) -> Result<Seq<Seq<Literal<'a>>>, AllocError>
+) -> Result<Terms<'a>, AllocError>
     ensures { IfOk result (λ terms. terms ≡ first.entry ∷ second.entry ∷ []) }
 {
-    let mut terms = Seq::new(alloc);
-    terms.push(first)?;
-    terms.push(second)?;
-    Ok(terms)
+    Terms::one(first).with(alloc, second)
 }
 
 impl<'a> Reading<'a> {
@@ -158,7 +194,7 @@ impl<'a> Reading<'a> {
         ensures end { self.new.1 ≡ self.old.1 }
         ensures left { IsRead self.old.1 (plain_sum self.old.0) self.new.0 result }
     {
-        let terms = self.sum(alloc, Seq::new(alloc))?;
+        let terms = self.sum(alloc, Terms::new(alloc))?;
         Ok(Form {
             kind: FormKind::Sum(true, terms),
         })
@@ -188,12 +224,12 @@ impl<'a> Reading<'a> {
     }
 
     /// Reads a sum and the `)`.
-    fn closed_sum(&mut self, alloc: Global) -> Result<Seq<Seq<Literal<'a>>>, Stop>
+    fn closed_sum(&mut self, alloc: Global) -> Result<Terms<'a>, Stop>
         ensures end { self.new.1 ≡ self.old.1 }
         ensures left { IsRead self.old.1 (ended_by 41 (sum [] self.old.0)) self.new.0 result }
         ensures some { IfOk result (λ terms. 0 < length terms) }
     {
-        let terms = self.sum(alloc, Seq::new(alloc))?;
+        let terms = self.sum(alloc, Terms::new(alloc))?;
         self.mark(b')')?;
         Ok(terms)
     }
@@ -239,7 +275,7 @@ impl<'a> Reading<'a> {
     {
         let second = self.literal(alloc, Before::One(&first))?;
         Ok(Form {
-            kind: FormKind::Differ(first, second),
+            kind: FormKind::Differ(Box::new(alloc, Pair { first, second })?),
         })
     }
 
@@ -250,8 +286,15 @@ impl<'a> Reading<'a> {
     {
         let second = self.second_literal(alloc, &first)?;
         let third = self.literal(alloc, Before::Two(&first, &second))?;
+        let choice = Choice {
+            condition: first,
+            chosen: Pair {
+                first: second,
+                second: third,
+            },
+        };
         Ok(Form {
-            kind: FormKind::Choice(first, second, third),
+            kind: FormKind::Choice(Box::new(alloc, choice)?),
         })
     }
 
@@ -281,7 +324,7 @@ impl<'a> Reading<'a> {
         &mut self,
         alloc: Global,
         first: Literal<'a>,
-    ) -> Result<Seq<Seq<Literal<'a>>>, Stop>
+    ) -> Result<Terms<'a>, Stop>
         ensures end { self.new.1 ≡ self.old.1 }
         ensures left { IsRead self.old.1 (rest_of_terms first.entry self.old.0) self.new.0 result }
     {
@@ -294,12 +337,11 @@ impl<'a> Reading<'a> {
         &mut self,
         alloc: Global,
         term: Seq<Literal<'a>>,
-    ) -> Result<Seq<Seq<Literal<'a>>>, Stop>
+    ) -> Result<Terms<'a>, Stop>
         ensures end { self.new.1 ≡ self.old.1 }
         ensures left { IsRead self.old.1 (from_term term.entry self.old.0) self.new.0 result }
     {
-        let mut terms = Seq::new(alloc);
-        terms.push(term)?;
+        let terms = Terms::one(term);
         if self.is_mark(b'|') {
             self.pass();
             return self.sum(alloc, terms);
@@ -325,8 +367,8 @@ impl<'a> Reading<'a> {
     fn sum(
         &mut self,
         alloc: Global,
-        before: Seq<Seq<Literal<'a>>>,
-    ) -> Result<Seq<Seq<Literal<'a>>>, Stop>
+        before: Terms<'a>,
+    ) -> Result<Terms<'a>, Stop>
         ensures end { self.new.1 ≡ self.old.1 }
         ensures left { IsRead self.old.1 (sum before.entry self.old.0) self.new.0 result }
         ensures some { IfOk result (λ terms. 0 < length terms) }
@@ -335,7 +377,7 @@ impl<'a> Reading<'a> {
         'terms: loop {
             match self.term(alloc) {
                 Err(stop) => return Err(stop),
-                Ok(term) => terms.push(term)?,
+                Ok(term) => terms = terms.with(alloc, term)?,
             }
             if !self.is_mark(b'|') {
                 return Ok(terms);

@@ -23,3 +23,4 @@ pub mod placed;
 pub mod reading;
 pub mod stop;
 pub mod term;
+pub mod terms;

@@ -64,7 +64,7 @@ const MOST_WITHOUT_TABLE: usize = 16;
 #[derive(Drop)]
 pub struct Term<'a> {
     literals: Seq<Literal<'a>>,
-    table: NetNames,
+    table: Option<Box<NetNames>>,
 }
 
 impl<'a> Model for Term<'a> {
@@ -86,7 +86,7 @@ impl<'a> Term<'a> {
     {
         Term {
             literals: Seq::new(alloc),
-            table: NetNames::new(alloc),
+            table: None,
         }
     }
 
@@ -128,10 +128,10 @@ impl<'a> Term<'a> {
     pub fn has(&self, net: &[u8]) -> bool
         ensures { result ≡ list_any (λ literal. bytes_eq literal.net net.now) self.now }
     {
-        if self.literals.len() <= MOST_WITHOUT_TABLE {
-            return is_among(self.literals.as_slice(), net);
+        match &self.table {
+            None => is_among(self.literals.as_slice(), net),
+            Some(table) => table.find(net).is_some(),
         }
-        self.table.find(net).is_some()
     }
 }
 
@@ -145,36 +145,37 @@ fn is_among(literals: &[Literal<'_>], net: &[u8]) -> bool
 /// The table of a term that gets one literal more.
 fn table_with(
     alloc: Global,
-    table: NetNames,
+    table: Option<Box<NetNames>>,
     literals: &[Literal<'_>],
     next: &Literal<'_>,
-) -> Result<NetNames, AllocError>
+) -> Result<Option<Box<NetNames>>, AllocError>
     requires { HasTable literals.now table }
     ensures { IfOk result (λ table. HasTable (literals.now ++ next.now ∷ []) table) }
 {
     if literals.len() < MOST_WITHOUT_TABLE {
-        return Ok(table);
+        return Ok(None);
     }
-    let full = full_table(alloc, table, literals)?;
-    let mut table = full;
+    let mut table = full_table(alloc, table, literals)?;
     table.intern(alloc, next.net.bytes())?;
-    Ok(table)
+    Ok(Some(table))
 }
 
 /// The table of so many literals that they have one: it is made when there are as many for the first time.
 fn full_table(
     alloc: Global,
-    table: NetNames,
+    table: Option<Box<NetNames>>,
     literals: &[Literal<'_>],
-) -> Result<NetNames, AllocError>
-    requires many { MOST_WITHOUT_TABLE ≤ length literals.now }
-    requires table { HasTable literals.now table }
-    ensures { IfOk result (AreKnown literals.now) }
+) -> Result<Box<NetNames>, AllocError>
+    requires { HasTable literals.now table }
+    ensures { IfOk result (λ table. AreKnown literals.now table.value) }
 {
-    if literals.len() == MOST_WITHOUT_TABLE {
-        return table_of(alloc, literals);
+    match table {
+        Some(table) => Ok(table),
+        None => {
+            let table = table_of(alloc, literals)?;
+            Ok(Box::new(alloc, table)?)
+        }
     }
-    Ok(table)
 }
 
 /// A table of the nets of literals.

@@ -7,7 +7,7 @@ ghost use Rattle.cg_verilog_text.specs.Lexeme.{based_length, closed, closed_by, 
 ghost use Rattle.cg_verilog_text.specs.Lexeme.{is_mark_byte, lexeme, run_length, skips_line};
 ghost use Rattle.cg_verilog_text.specs.declared.kind.Kind.TheVariants.{Escaped};
 ghost use Rattle.cg_verilog_text.specs.declared.lexeme.Lexeme.TheVariants.{Token};
-ghost use Rattle.cg_verilog_tokens.specs.Beginnings.{IsEscapedName, IsWithin, begun};
+ghost use Rattle.cg_verilog_tokens.specs.Beginnings.{IsEscapedName, IsWithin, begun, is_lone_mark};
 ghost use Rattle.cg_verilog_tokens.specs.PlainNames.{IsNamedIf, IsPlainName};
 ghost use Rattle.cg_verilog_tokens.specs.Runs.{in_run};
 
@@ -192,9 +192,48 @@ fn are_name(bytes: &[u8], count: usize) -> bool
     true
 }
 
-/// What begins at a byte, with what stands after it; `fresh`: only blanks stand before it on its line.
-#[tactic(auto, using(crate::proofs::PlainNames::plain_name))]
+/// One of the bytes that are tokens by themselves, whatever stands behind them.
+fn is_lone_mark(byte: u8) -> bool
+    ensures { result ≡ is_lone_mark byte }
+{
+    byte == b')'
+        || (byte == b';'
+            || (byte == b','
+                || (byte == b'.'
+                    || (byte == b'['
+                        || (byte == b']'
+                            || (byte == b':'
+                                || (byte == b'='
+                                    || (byte == b'~'
+                                        || (byte == b'&'
+                                            || (byte == b'|'
+                                                || (byte == b'^'
+                                                    || (byte == b'?' || byte == b'@'))))))))))))
+}
+
+/// What begins at a byte, with what stands after it; `fresh`: only blanks stand before it on its line. What is most often met is
+/// looked for first.
+#[tactic(auto, using(crate::proofs::CommonLexemes::escaped_lexeme, crate::proofs::CommonLexemes::open_lexeme))]
 pub fn lexeme(fresh: bool, byte: u8, after: &[u8]) -> Begun
+    ensures lexeme { begun result ≡ lexeme fresh byte after.now }
+    ensures within { IsWithin (length after.now) result }
+    ensures plain { IsPlainName byte after.now result }
+    ensures named { IsEscapedName after.now result }
+{
+    if byte == b'\\' {
+        escaped(after)
+    } else if is_lone_mark(byte) {
+        Begun::Token(Kind::Mark, 0)
+    } else if byte == b'(' && !begins_with(after, b'*') {
+        Begun::Token(Kind::Mark, 0)
+    } else {
+        rarer_lexeme(fresh, byte, after)
+    }
+}
+
+/// The same, looked for in the order in which the language tells kinds of tokens apart.
+#[tactic(auto, using(crate::proofs::PlainNames::plain_name))]
+fn rarer_lexeme(fresh: bool, byte: u8, after: &[u8]) -> Begun
     ensures lexeme { begun result ≡ lexeme fresh byte after.now }
     ensures within { IsWithin (length after.now) result }
     ensures plain { IsPlainName byte after.now result }

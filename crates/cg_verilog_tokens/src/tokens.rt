@@ -113,7 +113,9 @@ impl<'a> Tokens<'a> {
             fresh: self.fresh,
         };
         'blanks: while let Some(blank) = blank_of(rest) {
-            place = next_place(place, blank.byte);
+            if blank.byte != b' ' {
+                place = next_place(place, blank.byte);
+            }
             rest = blank.rest;
         }
         self.rest = rest;

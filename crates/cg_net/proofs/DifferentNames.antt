@@ -26,7 +26,7 @@ known_at (n ∷ names) name known = elim (or_cases (pointwise nat_eq name n) (is
   | inr later ↦ let found = known_at names name later in (suc found.0, found.1)
 ]
 
-with_name_different : (names : List (List ℕ)) (name : List ℕ) → AreDifferent names → AreDifferent (with_name names name)
+pub with_name_different : (names : List (List ℕ)) (name : List ℕ) → AreDifferent names → AreDifferent (with_name names name)
 with_name_different names name different = elim (cases_Bool (is_known names name)) [
   | inl known ↦ subst AreDifferent (sym (with_name-known names name known)) different
   | inr unknown ↦ subst AreDifferent (sym (with_name-unknown names name unknown)) (all_pairs_push (λ n other. n ≢ other) names name different (unknown_differs names name unknown))

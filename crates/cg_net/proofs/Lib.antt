@@ -1,7 +1,9 @@
 pub mod DifferentNames
 pub mod FoundNets
+pub mod LinkedNames
 pub mod Members
 pub mod NameLemmas
+pub mod NameSpanLemmas
 pub mod NamesInOrder
 pub mod NetSetLemmas
 pub mod TableLemmas

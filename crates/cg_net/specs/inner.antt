@@ -1,1 +1,3 @@
+pub mod NameBuckets
 pub mod NamePlaces
+pub mod NameSpans

@@ -7,10 +7,14 @@
 //! The modules, in the order in which data flows through them:
 //!
 //! - `id`: the numbers of nets, logic cells, registers and gating cells.
+//! - `name_list`: names one behind another in one list of bytes.
+//! - `buckets`: names in buckets, by their hashes.
 //! - `names`: the names of nets in the order in which they came, or in an order of the nets.
 //! - `net_set`: nets that are taken once.
 #![tactic(auto)]
 
+mod buckets;
 pub mod id;
+mod name_list;
 pub mod names;
 pub mod net_set;

@@ -1,20 +1,15 @@
-//! The names of nets, numbered in the order in which they came, and the keys of the table that they stand in.
+//! The names of nets, numbered in the order in which they came.
 
-ghost use Rattle.std.specs.Prelude.{◌≡◌, ◌≢◌, ◌∷◌, [], ◌<◌, ◌^◌, Some, false, length, nat_eq};
+ghost use Rattle.std.specs.Prelude.{◌≡◌, ◌≢◌, [], ◌<◌, ◌^◌, Some, false, length};
 ghost use Rattle.std.specs.Prelude.{slice_get, IfOk, MatchOption, OnErr, OnOk, map};
-ghost use Rattle.std.specs.Cmp.Lexicographic.{nat_list_eq_equiv, on_texts_equal, pointwise};
-ghost use Rattle.std.specs.Cmp.Rules.{hashing};
-ghost use Rattle.std.specs.Cmp.{partial_equiv_from_equiv};
 ghost use Rattle.std.specs.List.{All, AllPairs};
-ghost use Rattle.std.specs.Ordering.{on};
-ghost use Rattle.std.proofs.Common.{rules};
 ghost use Rattle.cg_net.specs.Names.{is_known, net_name, with_name};
 ghost use Rattle.cg_net.specs.inner.NamePlaces.{IsPlaced};
 
+use crate::buckets::{Buckets, hash_of};
 use crate::id::NetId;
-use indexmap::{Equivalent, IndexSet};
+use crate::name_list::NameList;
 use std::alloc::{AllocError, Global};
-use std::hash::{Hash, Hasher};
 use std::marker::Model;
 
 /// A table of names, each of which stands in it once. A name is found by its bytes, or by its number: the place at
@@ -23,15 +18,19 @@ use std::marker::Model;
 /// Clauses see the list of names.
 #[derive(Drop)]
 pub struct NetNames {
-    set: IndexSet<Key>,
+    names: NameList,
+    buckets: Buckets,
 }
 
 impl Model for NetNames {
     ghost use Rattle.std.specs.Prelude.{List, ℕ};
+    ghost use Rattle.cg_net.specs.inner.NameBuckets.{IsTable};
 
     ghost Value = { List (List ℕ) };
 
-    ghost view = { λ n. n.set.keys };
+    ghost view = { λ n. n.names };
+
+    ghost invariant = { λ n. IsTable n.names n.buckets.lasts.items n.buckets.befores.items };
 }
 
 impl NetNames {
@@ -40,7 +39,8 @@ impl NetNames {
         ensures { result ≡ [] }
     {
         NetNames {
-            set: IndexSet::new(alloc),
+            names: NameList::new(alloc),
+            buckets: Buckets::new(alloc),
         }
     }
 
@@ -49,7 +49,7 @@ impl NetNames {
         ensures count { result ≡ length self.now }
         ensures different { AllPairs (λ name other. name ≢ other) self.now }
     {
-        self.set.len()
+        self.names.len()
     }
 
     /// The name of this number.
@@ -57,14 +57,14 @@ impl NetNames {
         requires { number < length self.now }
         ensures { slice_get self.now number ≡ Some result.now }
     {
-        self.set[number].bytes()
+        self.names.get(number)
     }
 
     /// The number of a name, or `None` where it is none of these.
     pub fn find(&self, name: &[u8]) -> Option<usize>
         ensures { MatchOption result (is_known self.now name.now ≡ false) (λ i. slice_get self.now i ≡ Some name.now) }
     {
-        self.set.get_index_of(Sought { name })
+        self.buckets.find(&self.names, name, hash_of(name))
     }
 
     /// The number of a name, which goes behind the others where it is none of them yet.
@@ -73,12 +73,14 @@ impl NetNames {
         ensures number { IfOk result (λ i. slice_get self.new i ≡ Some name.now) }
         ensures err { OnErr result (self.new ≡ self.old) }
     {
-        if let Some(number) = self.set.get_index_of(Sought { name }) {
+        let hash = hash_of(name);
+        if let Some(number) = self.buckets.find(&self.names, name, hash) {
             return Ok(number);
         }
-        let number = self.set.len();
-        let key = Key::new(alloc, name)?;
-        self.set.insert(key)?;
+        let number = self.names.len();
+        self.buckets.make_room(alloc, &self.names)?;
+        self.names.push(name)?;
+        self.buckets.put(number, hash);
         Ok(number)
     }
 }
@@ -167,101 +169,4 @@ fn places(alloc: Global, count: usize, order: &[NetId]) -> Result<Vec<u32>, Allo
         places[order[place].number() as usize] = place as u32;
     }
     Ok(places)
-}
-
-/// A name in a table. It is hashed as one text, which is quicker than byte by byte, as a `Vec` would be.
-#[derive(Drop)]
-struct Key {
-    bytes: Vec<u8>,
-}
-
-impl Model for Key {
-    ghost use Rattle.std.specs.Prelude.{List, ℕ};
-
-    ghost Value = { List ℕ };
-
-    ghost view = { λ k. k.bytes.items };
-}
-
-impl Key {
-    /// A name of its own copy of these bytes.
-    fn new(alloc: Global, name: &[u8]) -> Result<Key, AllocError>
-        ensures { IfOk result (λ key. key ≡ name.now) }
-    {
-        let bytes = Vec::from_slice(alloc, name)?;
-        Ok(Key { bytes })
-    }
-
-    /// The bytes of the name.
-    fn bytes(&self) -> &[u8]
-        ensures bytes { result.now ≡ self.now }
-    {
-        &self.bytes
-    }
-}
-
-impl PartialEq for Key {
-    ghost eq = { pointwise nat_eq };
-
-    ghost laws = { partial_equiv_from_equiv nat_list_eq_equiv };
-
-    fn eq(&self, other: &Key) -> bool {
-        self.bytes() == other.bytes()
-    }
-}
-
-impl Eq for Key {
-    ghost laws = { nat_list_eq_equiv };
-}
-
-impl Hash for Key {
-    ghost hash_input = { λ name. name ∷ [] };
-
-    ghost respects_eq = { Prim.search (hashing, rules) };
-
-    fn hash<H: Hasher>(&self, state: &mut H) {
-        state.write(self.bytes());
-    }
-}
-
-/// A name that is looked for in a table.
-#[derive(Clone, Copy)]
-struct Sought<'a> {
-    name: &'a [u8],
-}
-
-impl<'a> PartialEq for Sought<'a> {
-    ghost eq = { on (λ s. s.name.now) (pointwise nat_eq) };
-
-    ghost laws = { partial_equiv_from_equiv (on_texts_equal (λ s. s.name.now)) };
-
-    fn eq(&self, other: &Sought<'a>) -> bool {
-        self.name == other.name
-    }
-}
-
-impl<'a> Eq for Sought<'a> {
-    ghost laws = { on_texts_equal (λ s. s.name.now) };
-}
-
-impl<'a> Hash for Sought<'a> {
-    ghost hash_input = { λ s. s.name.now ∷ [] };
-
-    ghost respects_eq = { Prim.search (hashing, rules) };
-
-    fn hash<H: Hasher>(&self, state: &mut H) {
-        state.write(self.name);
-    }
-}
-
-impl<'a> Equivalent<Key> for Sought<'a> {
-    ghost equivalent = { λ s name. pointwise nat_eq s.name.now name };
-
-    ghost respects_hash = { Prim.search (hashing, rules) };
-
-    ghost respects_eq = { λ s. nat_list_eq_equiv.congr s.name.now };
-
-    fn equivalent(&self, key: &Key) -> bool {
-        self.name == key.bytes()
-    }
 }

@@ -61,7 +61,7 @@ fn delete_learnt(
 pub fn forget(
     problem: &Problem<'_>,
     draft: &mut LogDraft<'_>,
-    guide: &Guide,
+    guide: &mut Guide,
     trail: &[Entry],
 ) -> Result<(), AllocError>
     requires search { IsSearch problem.now.count draft.old.clauses trail.now }
@@ -76,6 +76,9 @@ pub fn forget(
         .lower_half(draft.clauses(), problem.formula.clauses.len())?;
     'found: for (_, place) in found.as_slice() {
         delete_learnt(problem, draft, trail, used.as_slice(), *place)?;
+        if draft.clauses().get(*place).is_none() {
+            guide.watches.remove(*place);
+        }
     }
     Ok(())
 }

@@ -81,21 +81,21 @@ impl Guide {
         self.unit(lit) != NOWHERE
     }
 
-    /// The next clause is watched at these literals.
-    pub fn watch(&mut self, first: Lit, second: Lit) -> Result<(), AllocError> {
+    /// The next clause is watched at these two of its literals.
+    pub fn watch(&mut self, lits: &[Lit], first: Lit, second: Lit) -> Result<(), AllocError> {
         self.merits.push()?;
-        self.watches.add(first, second)
+        self.watches.add(lits, first, second)
     }
 
     /// The next clause is not watched.
-    pub fn pass(&mut self, lit: Lit) -> Result<(), AllocError> {
+    pub fn pass(&mut self) -> Result<(), AllocError> {
         self.merits.push()?;
-        self.watches.pass(lit)
+        self.watches.pass()
     }
 
     /// The next clause is a unit clause.
     pub fn pass_unit(&mut self, lit: Lit, place: usize) -> Result<(), AllocError> {
         self.set_unit(lit, place);
-        self.pass(lit)
+        self.pass()
     }
 }

@@ -9,7 +9,7 @@ ghost use Rattle.cg_sat.specs.inner.Search.{IsSearch, Grows, IsConflict, IsLook}
 
 use crate::guide::Guide;
 use crate::scan::{Found, scan};
-use crate::watches::{Watch, Watches};
+use crate::watches::{Turn, Watch, Watches};
 use cg_formula::Lit;
 use cg_sat_state::clauses::Clauses;
 use cg_sat_state::trail::{Entry, Trail};
@@ -48,14 +48,30 @@ pub fn imply(
     Ok(())
 }
 
-/// What the trail makes of the clause of this number. A literal that is not false is looked for first from where one was
-/// found last.
-fn scan_on(trail: &Trail, watches: &mut Watches, clause: &[Lit], number: u32, given: Lit) -> Found
-    ensures { Finds (lits_of trail.now) clause.now given result }
+/// Looks at a clause of which all literals but this one seem to be false.
+fn look_at_last(
+    trail: &mut Trail,
+    clauses: &Clauses,
+    place: usize,
+    last: Lit,
+    count: usize,
+) -> Result<Look, AllocError>
+    requires { IsSearch count clauses.now trail.old }
+    ensures grows { OnOk result (Grows count clauses.now trail.old trail.new) }
+    ensures conflict { IfOk result (IsLook clauses.now trail.new) }
 {
-    match watches.next(trail, clause, number, given) {
-        Some(next) => Found::Another(next),
-        None => scan(trail, clause, given),
+    let Some(clause) = clauses.get(place) else {
+        return Ok(Look::Moved);
+    };
+    match scan(trail, clause, last) {
+        Found::Another(_) => Ok(Look::Stays(last)),
+        Found::One => {
+            if !trail.has(last) && !trail.has(last.inverse()) {
+                imply(trail, clauses, last, place, count)?;
+            }
+            Ok(Look::Stays(last))
+        }
+        Found::Nothing => Ok(Look::Conflict(place)),
     }
 }
 
@@ -75,17 +91,9 @@ fn look_at(
     if trail.has(watch.blocker) {
         return Ok(Look::Stays(watch.blocker));
     }
-    let place = watch.clause as usize;
-    let Some(clause) = clauses.get(place) else {
-        return Ok(Look::Moved);
-    };
-    let other = watches.other(watch.clause, lit);
-    if trail.has(other) {
-        return Ok(Look::Stays(other));
-    }
-    match scan_on(trail, watches, clause, watch.clause, other) {
-        Found::Another(next) => {
-            watches.set(watch.clause, other, next);
+    match watches.turn(trail, watch.clause, lit) {
+        Turn::Satisfied(other) => Ok(Look::Stays(other)),
+        Turn::Moved(other, next) => {
             let moved = Watch {
                 clause: watch.clause,
                 blocker: other,
@@ -93,13 +101,8 @@ fn look_at(
             watches.put(next, moved)?;
             Ok(Look::Moved)
         }
-        Found::One => {
-            if !trail.has(other.inverse()) {
-                imply(trail, clauses, other, place, count)?;
-            }
-            Ok(Look::Stays(other))
-        }
-        Found::Nothing => Ok(Look::Conflict(place)),
+        Turn::Last(last) => look_at_last(trail, clauses, watch.clause as usize, last, count),
+        Turn::Gone => Ok(Look::Moved),
     }
 }
 

@@ -83,13 +83,13 @@ fn turn_back(
     let second = if lits.len() > 1 { lits[1] } else { first };
     let is_unit = lits.len() == 1;
     let place = draft.clauses().len();
-    draft.add(lits, hints)?;
     if is_unit {
         guide.unsettled = true;
         guide.pass_unit(first, place)?;
     } else {
-        guide.watch(first, second)?;
+        guide.watch(lits.as_slice(), first, second)?;
     }
+    draft.add(lits, hints)?;
     cut_to(trail, &mut guide.order, cut)?;
     trail.push(Entry {
         lit: first,
@@ -121,17 +121,17 @@ fn begin_at(
         return Ok(true);
     };
     match scan(trail, clause, first) {
-        Found::Another(second) => guide.watch(first, second)?,
+        Found::Another(second) => guide.watch(clause, first, second)?,
         Found::One => {
             if clause.len() == 1 {
                 guide.set_unit(first, place);
             }
-            guide.pass(first)?;
+            guide.pass()?;
             if !trail.has(first) && !trail.has(first.inverse()) {
                 imply(trail, clauses, first, place, count)?;
             }
         }
-        Found::Nothing => guide.pass(first)?,
+        Found::Nothing => guide.pass()?,
     }
     Ok(false)
 }

@@ -98,7 +98,7 @@ fn finish(alloc: Global, demo: Demo, progress: &mut dyn Progress) -> Result<Outp
 {
     let wanted = wanted(alloc)?;
     let pipeline = read_pipeline(alloc, demo.size, &wanted)?;
-    gate_pipeline(alloc, demo.size, pipeline, &wanted, progress)
+    gate_pipeline(alloc, demo.size, pipeline, wanted, progress)
 }
 
 /// How the pipeline is gated: as the defaults say.
@@ -167,10 +167,10 @@ fn gate_pipeline(
     alloc: Global,
     size: u32,
     pipeline: Pipeline,
-    wanted: &Wanted,
+    wanted: Wanted,
     progress: &mut dyn Progress,
 ) -> Result<Output, Trouble>
-    requires wanted { wanted.now ≡ demo_wanted }
+    requires wanted { wanted ≡ demo_wanted }
     requires read { pipeline_found size ≡ Ok pipeline }
     ensures { Concludes (pipeline_stops (Ok pipeline)) (PutsDemo size (pipeline_request pipeline) pipeline.netlist) result }
 {
@@ -185,6 +185,7 @@ fn gate_pipeline(
     // By calls, as their parts would else be dropped one by one in the proof.
     drop(library);
     drop(stimulus);
+    drop(wanted);
     result
 }
 

@@ -54,6 +54,7 @@ pub fn extract(alloc: Global, netlist: Netlist, prefix: &Name) -> Result<Extract
     requires untested { HasNoTests netlist }
     ensures machine { IfOk result (λ made. made.machine ≡ lifted netlist prefix.now) }
     ensures kept { IfOk result (λ made. unwrap_or made.kept (bare netlist) ≡ netlist) }
+    ensures once { IfOk result (λ made. netlist.gaters ≡ [] → made.kept ≡ None) }
 {
     if netlist.gaters() == 0 {
         // Nothing is left out, and no net gets another number.
@@ -79,6 +80,7 @@ fn of_ungated(alloc: Global, netlist: Netlist, prefix: &Name) -> Result<Extracte
     requires none { netlist.gaters ≡ [] }
     ensures machine { IfOk result (λ made. made.machine ≡ lifted netlist prefix.now) }
     ensures kept { IfOk result (λ made. unwrap_or made.kept (bare netlist) ≡ netlist) }
+    ensures once { IfOk result (λ made. made.kept ≡ None) }
 {
     let machine = Machine::of(alloc, netlist, prefix)?;
     Ok(Extracted {

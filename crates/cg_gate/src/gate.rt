@@ -56,8 +56,8 @@ pub struct Texts {
     pub said: Seq<u8>,
 }
 
-/// The texts beside the proof file, which is made first, and that of the written netlist, which is made last: it is the largest, and nothing
-/// but that netlist is held by then.
+/// The texts beside the proof file, which is made first, and that of the written netlist, which is made last, when the plan and the netlist
+/// that was read are let go.
 #[derive(Drop)]
 struct OtherTexts {
     pub report: Option<Seq<u8>>,

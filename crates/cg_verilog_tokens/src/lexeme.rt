@@ -212,7 +212,7 @@ fn is_lone_mark(byte: u8) -> bool
                                                     || (byte == b'?' || byte == b'@'))))))))))))
 }
 
-/// Whether a byte is seen to be a mark at once.
+/// Whether a byte is seen to be a mark at once. It may be one so unseen.
 #[inline(always)]
 pub fn is_seen_mark(byte: u8, after: &[u8]) -> bool
     ensures { result ≡ true → (fresh : Bool) → lexeme fresh byte after.now ≡ Token Mark 0 }

@@ -69,7 +69,7 @@ impl<'a> Tokens<'a> {
         line_behind(self.text)
     }
 
-    /// Takes the next token if its first byte tells that it is a mark; else it takes none.
+    /// Takes the next token if it is seen at once, by its first byte, to be a mark. It may be one so unseen; then it takes none.
     #[inline(always)]
     pub fn next_mark(&mut self) -> Option<Mark>
         ensures mark { MatchOption result (self.new ≡ self.old) (λ mark. self.old.0 ≡ mark_token mark ∷ self.new.0) }

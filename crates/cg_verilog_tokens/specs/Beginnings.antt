@@ -1,5 +1,5 @@
 -- What begins at a byte, as it is found.
-use Rattle.std.specs.Prelude.{ℕ, ◌≤◌, ◌==◌, Bool, List, codes, take}
+use Rattle.std.specs.Prelude.{ℕ, ◌≤◌, ◌==◌, ◌&&◌, ◌||◌, Bool, not, List, codes, slice_index, take}
 use Rattle.std.specs.List.{list_any}
 use Rattle.cg_verilog_text.specs.declared.kind.Kind.TheVariants as kinds
 use Rattle.cg_verilog_text.specs.declared.lexeme.Lexeme.{Lexeme}
@@ -29,3 +29,7 @@ IsEscapedName after other = Unit {0}
 -- one of the marks that nothing behind them makes part of something else
 abbrev pub is_lone_mark : ℕ → Bool
 is_lone_mark byte = list_any (λ mark. byte == mark) (codes ");,.[]:=~&|^?@")
+
+-- a byte that is seen to be a mark by no more than the byte behind it
+abbrev pub is_seen_mark : ℕ → List ℕ → Bool
+is_seen_mark byte after = is_lone_mark byte || (byte == 40 && not (slice_index after 0 == 42))

@@ -7,7 +7,7 @@ ghost use Rattle.cg_verilog_text.specs.Lexeme.{based_length, closed, closed_by, 
 ghost use Rattle.cg_verilog_text.specs.Lexeme.{is_mark_byte, lexeme, run_length, skips_line};
 ghost use Rattle.cg_verilog_text.specs.declared.kind.Kind.TheVariants.{Escaped, Mark};
 ghost use Rattle.cg_verilog_text.specs.declared.lexeme.Lexeme.TheVariants.{Token};
-ghost use Rattle.cg_verilog_tokens.specs.Beginnings.{IsEscapedName, IsWithin, begun, is_lone_mark};
+ghost use Rattle.cg_verilog_tokens.specs.Beginnings.{IsEscapedName, IsWithin, begun, is_lone_mark, is_seen_mark};
 ghost use Rattle.cg_verilog_tokens.specs.PlainNames.{IsNamedIf, IsPlainName};
 ghost use Rattle.cg_verilog_tokens.specs.Runs.{in_run};
 
@@ -215,7 +215,8 @@ fn is_lone_mark(byte: u8) -> bool
 /// Whether a byte is seen to be a mark at once.
 #[inline(always)]
 pub fn is_seen_mark(byte: u8, after: &[u8]) -> bool
-    ensures { result ≡ true → (fresh : Bool) → lexeme fresh byte after.now ≡ Token Mark 0 }
+    ensures seen { result ≡ is_seen_mark byte after.now }
+    ensures begins { result ≡ true → (fresh : Bool) → lexeme fresh byte after.now ≡ Token Mark 0 }
 {
     is_lone_mark(byte) || (byte == b'(' && !begins_with(after, b'*'))
 }

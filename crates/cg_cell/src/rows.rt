@@ -3,15 +3,19 @@
 ghost use Rattle.std.specs.Prelude.{◌≡◌, ◌<◌, ◌++◌, ◌∷◌, [], length, get_or, IfOk, ◌+◌, if◌then◌else◌, is_ok};
 ghost use Rattle.cg_cell.specs.Cover.{HaveOneLength};
 
+use smallvec::SmallVec;
 use std::alloc::{AllocError, Global};
 use std::marker::Model;
+
+/// So many places lie in the value itself.
+const INLINE: usize = 16;
 
 /// Rows that have a place for each of the same inputs: a given bit, or `None` where the row leaves the input open.
 ///
 /// Clauses see the list of the rows. In memory their places stand in one list, those of a row behind those of the row before.
 #[derive(Drop)]
 pub struct CoverRows {
-    places: Vec<Option<bool>>,
+    places: SmallVec<Option<bool>, INLINE>,
     /// How many places a row has.
     width: usize,
     /// How many rows there are: places don't tell where there are no inputs.
@@ -33,7 +37,7 @@ impl Clone for CoverRows {
     ghost is_clone = { λ x y. y ≡ x };
 
     fn clone(&self) -> Result<CoverRows, AllocError> {
-        let places = Vec::from_slice(*self.places.allocator(), &self.places)?;
+        let places = SmallVec::from_slice(*self.places.allocator(), self.places.as_slice())?;
         Ok(CoverRows {
             places,
             width: self.width,
@@ -48,7 +52,7 @@ impl CoverRows {
         ensures { result ≡ [] }
     {
         CoverRows {
-            places: Vec::new(alloc),
+            places: SmallVec::new(alloc),
             width: 0,
             count: 0,
         }
@@ -67,8 +71,11 @@ impl CoverRows {
         requires { number < length self.now }
         ensures { result.now ≡ get_or self.now number [] }
     {
+        let places = self.places.as_slice();
+        // The length of a slice fits, and so do the products below.
+        let _ = places.len();
         let start = number * self.width;
-        &self.places[start..start + self.width]
+        &places[start..start + self.width]
     }
 
     /// Puts a row behind the others, or leaves them as they are where memory is wanting.

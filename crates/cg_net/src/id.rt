@@ -9,7 +9,7 @@ use std::marker::Model;
 
 /// The number of a net: its place in net order, where a netlist has it; while parts are told, the place at which its name
 /// came.
-#[derive(Clone, Copy, Debug, PartialEq, Eq)]
+#[derive(Clone, Copy, Debug, Default, PartialEq, Eq)]
 pub struct NetId {
     number: u32,
 }

@@ -13,6 +13,7 @@ ghost use Rattle.cg_net.specs.inner.NamePlaces.{IsPlaced};
 
 use crate::id::NetId;
 use indexmap::{Equivalent, IndexSet};
+use smallvec::SmallVec;
 use std::alloc::{AllocError, Global};
 use std::hash::{Hash, Hasher};
 use std::marker::Model;
@@ -169,10 +170,13 @@ fn places(alloc: Global, count: usize, order: &[NetId]) -> Result<Vec<u32>, Allo
     Ok(places)
 }
 
+/// So many bytes lie in the value itself.
+const INLINE: usize = 16;
+
 /// A name in a table. It is hashed as one text, which is quicker than byte by byte, as a `Vec` would be.
 #[derive(Drop)]
 struct Key {
-    bytes: Vec<u8>,
+    bytes: SmallVec<u8, INLINE>,
 }
 
 impl Model for Key {
@@ -188,7 +192,7 @@ impl Key {
     fn new(alloc: Global, name: &[u8]) -> Result<Key, AllocError>
         ensures { IfOk result (λ key. key ≡ name.now) }
     {
-        let bytes = Vec::from_slice(alloc, name)?;
+        let bytes = SmallVec::from_slice(alloc, name)?;
         Ok(Key { bytes })
     }
 
@@ -196,7 +200,7 @@ impl Key {
     fn bytes(&self) -> &[u8]
         ensures bytes { result.now ≡ self.now }
     {
-        &self.bytes
+        self.bytes.as_slice()
     }
 }
 

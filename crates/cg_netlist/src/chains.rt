@@ -7,6 +7,7 @@ use crate::levels::walk_order;
 use crate::netlist::Netlist;
 use crate::parts::{Gater, Logic, LogicFunction};
 use cg_net::id::{CellId, GateClockId};
+use smallvec::SmallVec;
 use std::alloc::{AllocError, Global};
 
 impl Netlist {
@@ -37,7 +38,7 @@ fn chain_cell(alloc: Global, gater: &Gater) -> Result<Logic, AllocError>
     ensures { IfOk result (λ cell. cell ≡ chain_cell gater.now) }
 {
     Ok(Logic {
-        inputs: vec![in alloc; gater.clock]?,
+        inputs: SmallVec::from_slice(alloc, &[gater.clock])?,
         output: gater.output,
         function: LogicFunction::Cell(gater.cell.clone()?),
     })

@@ -93,10 +93,10 @@ fn tell_register(parts: &Parts, r: usize, drivers: &mut [Driver])
     ensures { IsTold parts.now (flat_map shown_nets (drop (r + 1) parts.now.registers) ++ behind_registers parts.now) drivers.new }
 {
     let register = &parts.registers[r];
-    let outputs = &register.outputs;
+    let outputs = register.outputs.as_slice();
     for place in 0..outputs.len() {
-        let (net, inverted) = outputs[place];
-        drivers[net.number() as usize] = Driver::Register(RegId::new(r as u32), inverted);
+        let output = outputs[place];
+        drivers[output.0.number() as usize] = Driver::Register(RegId::new(r as u32), output.1);
     }
 }
 

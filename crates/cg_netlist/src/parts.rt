@@ -10,7 +10,17 @@ use cg_cell::cover::Cover;
 use cg_cell::name::Name;
 use cg_net::id::NetId;
 use cg_net::names::OrderedNames;
+use smallvec::SmallVec;
 use std::marker::Model;
+
+/// The nets at the inputs of a part. Most parts have few, and so many lie in the part itself: they take no memory of their own.
+pub type InputNets = SmallVec<NetId, 4>;
+
+/// The nets at the outputs of a register, each with true where it shows the inverse of the register's bit.
+pub type OutputNets = SmallVec<(NetId, bool), 2>;
+
+/// For each output of a register the place of its pin.
+pub type OutputPins = SmallVec<u32, 2>;
 
 /// The function of a logic cell, over its inputs in their order.
 #[derive(Drop)]
@@ -36,7 +46,7 @@ pub enum RegisterKind {
 #[derive(Drop)]
 pub struct Logic {
     /// The input nets, in the order of the function's variables.
-    pub inputs: Vec<NetId>,
+    pub inputs: InputNets,
 
     /// The output net.
     pub output: NetId,
@@ -94,13 +104,13 @@ impl Model for Gater {
 #[derive(Drop)]
 pub struct Register {
     /// The input nets.
-    pub inputs: Vec<NetId>,
+    pub inputs: InputNets,
 
     /// The output nets, each with true where it shows the inverse of the register's bit.
-    pub outputs: Vec<(NetId, bool)>,
+    pub outputs: OutputNets,
 
     /// For each output the place of its pin among the library cell's pins, counted from 0, and 0 for a plain register.
-    pub pins: Vec<u32>,
+    pub pins: OutputPins,
 
     /// The clock net.
     pub clock: NetId,

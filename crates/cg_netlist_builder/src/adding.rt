@@ -19,8 +19,12 @@ use cg_net::id::NetId;
 use cg_net::names::NetNames;
 use cg_net::net_set::NetSet;
 use cg_netlist::fault::AddFault;
-use cg_netlist::parts::{Gater, Logic, LogicFunction, RegisterKind};
+use cg_netlist::parts::{
+    Gater, InputNets, Logic, LogicFunction, OutputNets, OutputPins, RegisterKind,
+};
+use smallvec::SmallVec;
 use std::alloc::{AllocError, Global};
+use std::default::MadeWith;
 
 /// A part, as a call of a builder says it.
 #[derive(Drop)]
@@ -203,10 +207,10 @@ fn kind(cell: Option<&CellType>) -> Result<RegisterKind, AllocError>
 }
 
 /// The places of the pins at which the outputs of a register are.
-fn places(alloc: Global, outputs: &[(&[u8], u32)]) -> Result<Vec<u32>, AllocError>
+fn places(alloc: Global, outputs: &[(&[u8], u32)]) -> Result<OutputPins, AllocError>
     ensures { IfOk result (λ places. places.items ≡ map (λ output. output.1) outputs.now) }
 {
-    let mut places = Vec::with_capacity(alloc, outputs.len())?;
+    let mut places = SmallVec::with_capacity(alloc, outputs.len())?;
     for output in outputs {
         places.push(output.1)?;
     }
@@ -220,17 +224,17 @@ fn mention_outputs(
     names: &mut NetNames,
     cell: Option<&CellType>,
     outputs: &[(&[u8], u32)],
-) -> Result<Vec<(NetId, bool)>, AddFault>
+) -> Result<OutputNets, AddFault>
     requires { length names.old ≤ MOST_NETS }
     ensures mentions { MatchResult result
         (λ nets. IsMentioned names.old names.new (map (λ output. output.0.now) outputs.now) (map (λ net. net.0) nets.items))
         (λ fault. IsMentionFault (with_names names.old (map (λ output. output.0.now) outputs.now)) fault) }
     ensures inverted { IfOk result (λ nets. map (λ net. net.1) nets.items ≡ map (λ output. shows_inverse (option_copied cell.entry) output.1) outputs.now) }
 {
-    let mut nets = Vec::with_capacity(alloc, outputs.len())?;
+    let mut nets = SmallVec::with_capacity(alloc, outputs.len())?;
     for output in outputs {
         let net = mention(alloc, names, output.0)?;
-        put(&mut nets, (net, is_inverse(cell, output.1)))?;
+        put_few(&mut nets, (net, is_inverse(cell, output.1)))?;
     }
     Ok(nets)
 }
@@ -268,16 +272,16 @@ pub(crate) fn mention_each(
     alloc: Global,
     names: &mut NetNames,
     mentioned: &[&[u8]],
-) -> Result<Vec<NetId>, AddFault>
+) -> Result<InputNets, AddFault>
     requires { length names.old ≤ MOST_NETS }
     ensures mentions { MatchResult result
         (λ nets. IsMentioned names.old names.new (map (λ name. name.now) mentioned.now) nets.items)
         (λ fault. IsMentionFault (with_names names.old (map (λ name. name.now) mentioned.now)) fault) }
 {
-    let mut nets = Vec::with_capacity(alloc, mentioned.len())?;
+    let mut nets = SmallVec::with_capacity(alloc, mentioned.len())?;
     for name in mentioned {
         let net = mention(alloc, names, name)?;
-        put(&mut nets, net)?;
+        put_few(&mut nets, net)?;
     }
     Ok(nets)
 }
@@ -304,6 +308,19 @@ pub(crate) fn put<T: Drop>(parts: &mut Vec<T>, part: T) -> Result<(), AddFault>
     ensures { MatchResult result (λ _. parts.new.items ≡ parts.old.items ++ part ∷ []) (λ fault. fault ≡ AddFault.NoMemory) }
 {
     match parts.push(part) {
+        Ok(()) => Ok(()),
+        Err(_) => Err(AddFault::NoMemory),
+    }
+}
+
+/// Puts one more behind a few.
+fn put_few<T: MadeWith<Global> + Drop, const N: usize>(
+    few: &mut SmallVec<T, N>,
+    one: T,
+) -> Result<(), AddFault>
+    ensures { MatchResult result (λ _. few.new.items ≡ few.old.items ++ one ∷ []) (λ fault. fault ≡ AddFault.NoMemory) }
+{
+    match few.push(one) {
         Ok(()) => Ok(()),
         Err(_) => Err(AddFault::NoMemory),
     }

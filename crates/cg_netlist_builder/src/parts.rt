@@ -22,16 +22,18 @@ use cg_net::names::NetNames;
 use cg_net::net_set::NetSet;
 use cg_netlist::chains::chain_of;
 use cg_netlist::fault::AddFault;
-use cg_netlist::parts::{Gater, Logic, LogicFunction, RegisterKind};
+use cg_netlist::parts::{
+    Gater, InputNets, Logic, LogicFunction, OutputNets, OutputPins, RegisterKind,
+};
 use std::alloc::{AllocError, Global};
 use std::marker::Model;
 
 /// A register as a builder keeps it: one with no clock of its own is on the one clock of the netlist.
 #[derive(Drop)]
 pub(crate) struct OpenRegister {
-    pub(crate) inputs: Vec<NetId>,
-    pub(crate) outputs: Vec<(NetId, bool)>,
-    pub(crate) pins: Vec<u32>,
+    pub(crate) inputs: InputNets,
+    pub(crate) outputs: OutputNets,
+    pub(crate) pins: OutputPins,
     pub(crate) clock: Option<NetId>,
     pub(crate) kind: RegisterKind,
     pub(crate) init: u8,

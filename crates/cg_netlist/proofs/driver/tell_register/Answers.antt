@@ -14,7 +14,7 @@ loop-place-init c =
     let register : RegisterCell ℕ ℕ = c.index-register.result.now in
     let rest : List ℕ = flat_map shown_nets (drop (c.args.r + 1) parts.registers) ++ behind_registers parts in
     let at : slice_get parts.registers c.args.r ≡ Some register = ap (λ (p : Circuit). slice_get p.registers c.args.r) (sym c.parts.view_is) ∙ slice_get_read c.parts.inside.registers.items _ c.args.r register refl (omega (arith, c.requires.register, ap (λ (p : Circuit). length p.registers) c.parts.view_is)) c.index-register.ensures in
-    subst (λ (outputs : List (ℕ × Bool)). IsTold parts (map (λ (o : ℕ × Bool). o.0) outputs ++ rest) c.args.drivers.now) (sym (ap (λ (r : RegisterCell ℕ ℕ). r.outputs) c.register.view_is))
+    subst (λ (outputs : List (ℕ × Bool)). IsTold parts (map (λ (o : ℕ × Bool). o.0) outputs ++ rest) c.args.drivers.now) (sym (c.as_slice-outputs.ensures ∙ ap (λ (r : RegisterCell ℕ ℕ). r.outputs) c.register.view_is))
     (subst (λ left. IsTold parts left c.args.drivers.now) (registers_left parts.registers (behind_registers parts) c.args.r register at) c.requires.told)
 
 pub bounds-drivers-number : goal.bounds-drivers-number
@@ -22,8 +22,10 @@ bounds-drivers-number c =
     let parts : Circuit = c.args.parts.now in
     let register : RegisterCell ℕ ℕ = c.index-register.result.now in
     let at : slice_get parts.registers c.args.r ≡ Some register = ap (λ (p : Circuit). slice_get p.registers c.args.r) (sym c.parts.view_is) ∙ slice_get_read c.parts.inside.registers.items _ c.args.r register refl (omega (arith, c.requires.register, ap (λ (p : Circuit). length p.registers) c.parts.view_is)) c.index-register.ensures in
-    let shown : slice_get register.outputs c.loop-place.place ≡ Some c.index.result.now = ap (λ (r : RegisterCell ℕ ℕ). slice_get r.outputs c.loop-place.place) (sym c.register.view_is) ∙ slice_get_read c.register.inside.outputs.items _ c.loop-place.place c.index.result.now refl (omega (arith, c.loop-place-test.true, c.len-place-end.ensures)) c.index.ensures in
-    omega (arith, register_net_within parts c.requires.netlist.well_formed.driven c.args.r register c.loop-place.place c.index.result.now.0 c.index.result.now.1 at shown, c.number.ensures.number, c.loop-place.invariant.long)
+    let outputs : c.as_slice-outputs.result.now ≡ register.outputs = c.as_slice-outputs.ensures ∙ ap (λ (r : RegisterCell ℕ ℕ). r.outputs) c.register.view_is in
+    let output : ℕ × Bool = c.index-outputs-place.result in
+    let shown : slice_get register.outputs c.loop-place.place ≡ Some output = ap (λ (os : List (ℕ × Bool)). slice_get os c.loop-place.place) (sym outputs) ∙ slice_get_read c.as_slice-outputs.result.now _ c.loop-place.place output refl c.loop-place-test.true c.index-outputs-place.is in
+    omega (arith, register_net_within parts c.requires.netlist.well_formed.driven c.args.r register c.loop-place.place output.0 output.1 at shown, c.number.ensures.number, c.loop-place.invariant.long)
 
 pub loop-place-preserved : goal.loop-place-preserved
 loop-place-preserved c =
@@ -32,9 +34,10 @@ loop-place-preserved c =
     let register : RegisterCell ℕ ℕ = c.index-register.result.now in
     let rest : List ℕ = flat_map shown_nets (drop (c.args.r + 1) parts.registers) ++ behind_registers parts in
     let at : slice_get parts.registers c.args.r ≡ Some register = ap (λ (p : Circuit). slice_get p.registers c.args.r) (sym c.parts.view_is) ∙ slice_get_read c.parts.inside.registers.items _ c.args.r register refl (omega (arith, c.requires.register, ap (λ (p : Circuit). length p.registers) c.parts.view_is)) c.index-register.ensures in
-    let outputs : c.register.inside.outputs.items ≡ register.outputs = ap (λ (r : RegisterCell ℕ ℕ). r.outputs) c.register.view_is in
-    let shown : slice_get register.outputs place ≡ Some c.index.result.now = ap (λ (r : RegisterCell ℕ ℕ). slice_get r.outputs place) (sym c.register.view_is) ∙ slice_get_read c.register.inside.outputs.items _ place c.index.result.now refl (omega (arith, c.loop-place-test.true, c.len-place-end.ensures)) c.index.ensures in
-    let told = register_listed parts c.args.r register place c.index.result.now.0 c.index.result.now.1 rest c.loop-place.drivers at shown (subst (λ (os : List (ℕ × Bool)). IsTold parts (map (λ (o : ℕ × Bool). o.0) (drop place os) ++ rest) c.loop-place.drivers) outputs c.loop-place.invariant) in
-    subst (λ (os : List (ℕ × Bool)). IsTold parts (map (λ (o : ℕ × Bool). o.0) (drop (place + 1) os) ++ rest) (set c.loop-place.drivers c.number.result (Register c.new.result c.index.result.now.1))) (sym outputs)
-    (subst (λ n. IsTold parts (map (λ (o : ℕ × Bool). o.0) (drop (place + 1) register.outputs) ++ rest) (set c.loop-place.drivers n (Register c.new.result c.index.result.now.1))) (sym c.number.ensures.number)
-    (subst (λ j. IsTold parts (map (λ (o : ℕ × Bool). o.0) (drop (place + 1) register.outputs) ++ rest) (set c.loop-place.drivers c.index.result.now.0 (Register j c.index.result.now.1))) (sym c.new.ensures) told))
+    let outputs : c.as_slice-outputs.result.now ≡ register.outputs = c.as_slice-outputs.ensures ∙ ap (λ (r : RegisterCell ℕ ℕ). r.outputs) c.register.view_is in
+    let output : ℕ × Bool = c.index-outputs-place.result in
+    let shown : slice_get register.outputs place ≡ Some output = ap (λ (os : List (ℕ × Bool)). slice_get os place) (sym outputs) ∙ slice_get_read c.as_slice-outputs.result.now _ place output refl c.loop-place-test.true c.index-outputs-place.is in
+    let told = register_listed parts c.args.r register place output.0 output.1 rest c.loop-place.drivers at shown (subst (λ (os : List (ℕ × Bool)). IsTold parts (map (λ (o : ℕ × Bool). o.0) (drop place os) ++ rest) c.loop-place.drivers) outputs c.loop-place.invariant) in
+    subst (λ (os : List (ℕ × Bool)). IsTold parts (map (λ (o : ℕ × Bool). o.0) (drop (place + 1) os) ++ rest) (set c.loop-place.drivers c.number.result (Register c.new.result output.1))) (sym outputs)
+    (subst (λ n. IsTold parts (map (λ (o : ℕ × Bool). o.0) (drop (place + 1) register.outputs) ++ rest) (set c.loop-place.drivers n (Register c.new.result output.1))) (sym c.number.ensures.number)
+    (subst (λ j. IsTold parts (map (λ (o : ℕ × Bool). o.0) (drop (place + 1) register.outputs) ++ rest) (set c.loop-place.drivers output.0 (Register j output.1))) (sym c.new.ensures) told))

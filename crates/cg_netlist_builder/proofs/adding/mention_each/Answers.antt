@@ -15,4 +15,4 @@ pub loop-name-preserved : goal.loop-name-preserved
 loop-name-preserved c =
     let xs = c.args.mentioned.now in
     let i = c.loop-name.name-index in
-    mentioned_step (λ (name : Bor (List ℕ)). name.now) xs i _ (slice_get-get_or xs i _ c.loop-name-test.true) c.args.names.now c.loop-name.names c.mention.new.names c.loop-name.nets.items c.put.new.parts.items c.in_ok-net.net c.loop-name.invariant c.in_ok-net.ensures.mentions c.in_ok-put.ensures
+    mentioned_step (λ (name : Bor (List ℕ)). name.now) xs i _ (slice_get-get_or xs i _ c.loop-name-test.true) c.args.names.now c.loop-name.names c.mention.new.names c.loop-name.nets.items c.put_few.new.few.items c.in_ok-net.net c.loop-name.invariant c.in_ok-net.ensures.mentions c.in_ok-put_few.ensures

@@ -17,6 +17,6 @@ loop-output-preserved c =
     let xs = c.args.outputs.now in
     let i = c.loop-output.output-index in
     record {
-      mentioned = mentioned_step (λ (output : Bor (List ℕ) × ℕ). output.0.now) xs i _ (slice_get-get_or xs i _ c.loop-output-test.true) c.args.names.now c.loop-output.names c.mention.new.names (map (λ (net : ℕ × Bool). net.0) c.loop-output.nets.items) (map (λ (net : ℕ × Bool). net.0) c.put.new.parts.items) c.in_ok-net.net c.loop-output.invariant.mentioned c.in_ok-net.ensures.mentions (put_nets c.loop-output.nets.items c.put.new.parts.items c.in_ok-net.net c.is_inverse.result c.in_ok-put.ensures);
-      inverted = inverted_step (option_copied c.args.cell) xs i _ (slice_get-get_or xs i _ c.loop-output-test.true) c.loop-output.nets.items c.put.new.parts.items (c.in_ok-net.net, c.is_inverse.result) c.loop-output.invariant.inverted c.is_inverse.ensures c.in_ok-put.ensures;
+      mentioned = mentioned_step (λ (output : Bor (List ℕ) × ℕ). output.0.now) xs i _ (slice_get-get_or xs i _ c.loop-output-test.true) c.args.names.now c.loop-output.names c.mention.new.names (map (λ (net : ℕ × Bool). net.0) c.loop-output.nets.items) (map (λ (net : ℕ × Bool). net.0) c.put_few.new.few.items) c.in_ok-net.net c.loop-output.invariant.mentioned c.in_ok-net.ensures.mentions (put_nets c.loop-output.nets.items c.put_few.new.few.items c.in_ok-net.net c.is_inverse.result c.in_ok-put_few.ensures);
+      inverted = inverted_step (option_copied c.args.cell) xs i _ (slice_get-get_or xs i _ c.loop-output-test.true) c.loop-output.nets.items c.put_few.new.few.items (c.in_ok-net.net, c.is_inverse.result) c.loop-output.invariant.inverted c.is_inverse.ensures c.in_ok-put_few.ensures;
     }

@@ -1,5 +1,5 @@
 -- A clause looked at literal by literal.
-use Rattle.std.proofs.Common.{◌≡◌, ℕ, ◌+◌, ◌<◌, true, List, [], ◌∷◌, ◌++◌, inl, inr, refl, sym, ap, ◌∙◌}
+use Rattle.std.proofs.Common.{◌≡◌, ℕ, ◌+◌, ◌<◌, Bool, true, false, not, ◌||◌, ◌&&◌, List, [], ◌∷◌, ◌++◌, inl, inr, refl, sym, ap, ◌∙◌}
 use Rattle.std.proofs.Common.{subst, length, take, get_or, add-one}
 use Rattle.std.proofs.Math.Seq.{take-suc}
 use Rattle.cg_formula.specs.declared.formula.Lit.{Lit}
@@ -8,7 +8,7 @@ use Rattle.cg_formula.proofs.Members.{same_lit_equal}
 use Rattle.cg_sat.proofs.Marks.{blank_lit}
 use Rattle.cg_sat.specs.declared.scan.Found.{Found}
 use Rattle.cg_sat.specs.declared.scan.Found.TheVariants.{Another, One, Nothing}
-use Rattle.cg_sat.specs.inner.Scan.{Finds}
+use Rattle.cg_sat.specs.inner.Scan.{Finds, rest_found}
 use Rattle.cg_formula.proofs.Members.{pushed_in, in_pushed, last_in}
 
 -- one more literal, which is false
@@ -51,3 +51,18 @@ pub more_false : (trues clause : List Lit) (given : Lit) (found : Found) (i : �
     → Finds trues (take i clause) given found → Finds trues (take (i + 1) clause) given found
 more_false trues clause given found i within off finds =
     subst (λ ls. Finds trues ls given found) (sym (more_whole clause i within)) (finds_false trues (take i clause) given (get_or clause i blank_lit) found off finds)
+
+found_one : (left : Bool) (other : Lit) → rest_found left ≡ Another other → ⊥
+found_one true other e = cc
+found_one false other e = cc
+
+-- one more literal, after which all but the given one are false still
+pub rest_more : (trues clause : List Lit) (given : Lit) (more left off same : Bool) (i : ℕ) → i < length clause → is_in (inverse (get_or clause i blank_lit)) trues ≡ off
+    → same_lit (get_or clause i blank_lit) given ≡ same → (more ≡ false → Finds trues (take i clause) given (rest_found left))
+    → (more || (not off && not same)) ≡ false → Finds trues (take (i + 1) clause) given (rest_found (left || not off))
+rest_more trues clause given true left off same i within o s before e = cc
+rest_more trues clause given false true true same i within o s before e = more_false trues clause given One i within o (before refl)
+rest_more trues clause given false false true same i within o s before e = more_false trues clause given Nothing i within o (before refl)
+rest_more trues clause given false true false true i within o s before e = more_given trues clause given One i within s (found_one true) (before refl)
+rest_more trues clause given false false false true i within o s before e = more_given trues clause given Nothing i within s (found_one false) (before refl)
+rest_more trues clause given false left false false i within o s before e = cc

@@ -81,5 +81,6 @@ pub fn forget(
         }
     }
     guide.watches.tighten();
+    guide.watches.shorts.pack()?;
     Ok(())
 }

@@ -19,6 +19,9 @@ use cg_sat_state::clauses::Clauses;
 use cg_sat_state::trail::Entry;
 use std::alloc::{AllocError, Global};
 
+/// Room for so many hints is made at once.
+const MANY: usize = 32;
+
 /// A clause that is learnt from a conflict.
 #[derive(Drop)]
 pub struct Learnt {
@@ -370,7 +373,7 @@ fn take_hints(alloc: Global, work: &mut Work) -> Vec<u64>
 fn inverses(alloc: Global, lits: &[Lit]) -> Result<Vec<Lit>, AllocError>
     ensures { IfOk result (λ inverted. inverted.items ≡ map inverse lits.now) }
 {
-    let mut inverted = Vec::new(alloc);
+    let mut inverted = Vec::with_capacity(alloc, lits.len())?;
     for lit in lits {
         inverted.push(lit.inverse())?;
     }
@@ -396,6 +399,7 @@ pub fn learn(
         unreachable!();
     };
     work.kept.clear();
+    work.hints.reserve(MANY)?;
     work.hints.clear();
     work.hints.push(clauses.id(conflict))?;
     guide.merits.bump(conflict);

@@ -8,7 +8,7 @@
 //! In the order in which data flows through them:
 //!
 //! - `problem`: what a search is about;
-//! - `watches`, `order`, `merits`, `guide`: what to look at, to decide and to delete; no answer rests on them;
+//! - `shorts`, `watches`, `order`, `merits`, `guide`: what to look at, to decide and to delete; no answer rests on them;
 //! - `scan`, `propagate`: what follows from the literals that are true;
 //! - `learn`: the clause that a conflict teaches, with its hints;
 //! - `undo`, `units`, `forget`: the trail cut, clauses of single literals, clauses deleted;
@@ -26,6 +26,7 @@ mod problem;
 mod propagate;
 mod scan;
 mod search;
+mod shorts;
 mod undo;
 mod units;
 mod watches;

@@ -12,7 +12,7 @@ const MOST: u64 = 1 << 40;
 
 /// How many conflicts there are until clauses are deleted the first time, and how many more each time. Few clauses are kept:
 /// each is looked at again and again, and most are never of use again.
-const PERIOD: u64 = 200;
+const PERIOD: u64 = 100;
 
 const LONGER: u64 = 50;
 
@@ -82,7 +82,7 @@ impl Merits {
         true
     }
 
-    /// The half of the clauses from a place on that has the lower merits. Clauses of two literals are not among them.
+    /// The half of the clauses from a place on that has the lower merits. Clauses of two or three literals are not among them.
     pub fn lower_half(
         &self,
         clauses: &Clauses,
@@ -90,7 +90,7 @@ impl Merits {
     ) -> Result<Vec<(u64, usize)>, AllocError> {
         let mut found = Vec::new(self.alloc);
         for (place, merit) in self.merits.iter().enumerate().skip(from) {
-            if clauses.get(place).is_some_and(|lits| lits.len() > 2) {
+            if clauses.get(place).is_some_and(|lits| lits.len() > 3) {
                 found.push((*merit, place))?;
             }
         }

@@ -8,7 +8,8 @@ ghost use Rattle.cg_sat.specs.inner.Scan.{Finds};
 ghost use Rattle.cg_sat.specs.inner.Search.{IsSearch, Grows, IsConflict, IsLook};
 
 use crate::guide::Guide;
-use crate::scan::{Found, scan};
+use crate::scan::{Rest, rest_of};
+use crate::shorts::{Shorts, last_of};
 use crate::watches::{Turn, Watch, Watches, code_of, lit_of};
 use cg_formula::Lit;
 use cg_sat_state::clauses::Clauses;
@@ -48,32 +49,60 @@ pub fn imply(
     Ok(())
 }
 
-/// Looks at a clause of which all literals but this one seem to be false.
+/// Looks at a clause of which all literals but this one seem to be false. Answers its place, if it is false.
 fn look_at_last(
     trail: &mut Trail,
     clauses: &Clauses,
     place: usize,
     code: u32,
     count: usize,
-) -> Result<Look, AllocError>
+) -> Result<Option<usize>, AllocError>
     requires { IsSearch count clauses.now trail.old }
     ensures grows { OnOk result (Grows count clauses.now trail.old trail.new) }
-    ensures conflict { IfOk result (IsLook clauses.now trail.new) }
+    ensures conflict { IfOk result (λ found. IfSome found (IsConflict clauses.now trail.new)) }
 {
     let Some(clause) = clauses.get(place) else {
-        return Ok(Look::Moved);
+        return Ok(None);
     };
     let last = lit_of(code);
-    match scan(trail, clause, last) {
-        Found::Another(_) => Ok(Look::Stays(code)),
-        Found::One => {
+    match rest_of(trail, clause, last) {
+        Rest::More => Ok(None),
+        Rest::One => {
             if !trail.has(last) && !trail.has(last.inverse()) {
                 imply(trail, clauses, last, place, count)?;
             }
-            Ok(Look::Stays(code))
+            Ok(None)
         }
-        Found::Nothing => Ok(Look::Conflict(place)),
+        Rest::Nothing => Ok(Some(place)),
     }
+}
+
+/// Looks at the clauses of two or three literals on the list of a literal.
+fn look_along_shorts(
+    trail: &mut Trail,
+    clauses: &Clauses,
+    shorts: &Shorts,
+    off: u32,
+    count: usize,
+) -> Result<Option<usize>, AllocError>
+    requires { IsSearch count clauses.now trail.old }
+    ensures grows { OnOk result (Grows count clauses.now trail.old trail.new) }
+    ensures conflict { IfOk result (λ found. IfSome found (IsConflict clauses.now trail.new)) }
+{
+    let mut at = shorts.head(off);
+    for _step in 0..shorts.len() {
+        let Some(short) = shorts.get(at) else {
+            break;
+        };
+        if let Some(last) = last_of(trail, short) {
+            let found = look_at_last(trail, clauses, short.place as usize, last, count)?;
+            if found.is_some() {
+                return Ok(found);
+            }
+        }
+        at = short.next;
+    }
+    Ok(None)
 }
 
 /// Looks at a clause of which the literal of this number became false.
@@ -89,24 +118,22 @@ fn look_at(
     ensures grows { OnOk result (Grows count clauses.now trail.old trail.new) }
     ensures conflict { IfOk result (IsLook clauses.now trail.new) }
 {
-    if trail.has_number(watch.blocker as usize) {
-        return Ok(Look::Stays(watch.blocker));
-    }
-    if watch.is_pair {
-        return look_at_last(trail, clauses, watch.from as usize, watch.blocker, count);
-    }
     match watches.turn(trail, watch.from, off) {
         Turn::Satisfied(other) => Ok(Look::Stays(other)),
         Turn::Moved(other, next) => {
             let moved = Watch {
                 from: watch.from,
                 blocker: other,
-                is_pair: false,
             };
             watches.put(next, moved)?;
             Ok(Look::Moved)
         }
-        Turn::Last(last, place) => look_at_last(trail, clauses, place as usize, last, count),
+        Turn::Last(last, place) => {
+            match look_at_last(trail, clauses, place as usize, last, count)? {
+                Some(place) => Ok(Look::Conflict(place)),
+                None => Ok(Look::Stays(last)),
+            }
+        }
         Turn::Gone => Ok(Look::Moved),
     }
 }
@@ -127,15 +154,19 @@ fn look_along(
     let mut at = 0;
     'list: while at < list.len() {
         let watch = list[at];
-        match look_at(trail, clauses, watches, watch, off, count)? {
-            Look::Stays(blocker) => {
-                list[at].blocker = blocker;
-                at += 1;
+        if trail.has_number(watch.blocker as usize) {
+            at += 1;
+        } else {
+            match look_at(trail, clauses, watches, watch, off, count)? {
+                Look::Stays(blocker) => {
+                    list[at].blocker = blocker;
+                    at += 1;
+                }
+                Look::Moved => {
+                    let _ = list.swap_remove(at);
+                }
+                Look::Conflict(place) => return Ok(Some(place)),
             }
-            Look::Moved => {
-                let _ = list.swap_remove(at);
-            }
-            Look::Conflict(place) => return Ok(Some(place)),
         }
     }
     Ok(None)
@@ -155,6 +186,10 @@ pub fn propagate(
     'queue: while guide.taken < trail.len() {
         let off = code_of(trail.entries()[guide.taken].lit) ^ 1;
         guide.taken += 1;
+        let found = look_along_shorts(trail, clauses, &guide.watches.shorts, off, count)?;
+        if found.is_some() {
+            return Ok(found);
+        }
         let mut list = guide.watches.open(off);
         let found = look_along(trail, clauses, &mut guide.watches, &mut list, off, count)?;
         guide.watches.close(off, list);

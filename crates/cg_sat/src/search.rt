@@ -152,6 +152,7 @@ fn begin(
             return Ok(Some(place));
         }
     }
+    guide.watches.shorts.pack()?;
     propagate(trail, clauses, guide, count)
 }
 

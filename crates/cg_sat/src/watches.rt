@@ -5,6 +5,7 @@
 ghost use Rattle.std.specs.Prelude.{◌<◌, ◌≤◌, ◌^◌, length};
 ghost use Rattle.std.specs.Option.{IfSome};
 
+use crate::shorts::{NOWHERE, Shorts};
 use cg_formula::Lit;
 use cg_sat_state::trail::Trail;
 use std::alloc::{AllocError, Global};
@@ -22,18 +23,13 @@ pub fn lit_of(code: u32) -> Lit {
     }
 }
 
-/// No copy.
-const NOWHERE: u32 = u32::MAX;
-
 /// A clause on the list of a literal.
 #[derive(Clone, Copy)]
 pub struct Watch {
-    /// Where its copy stands; of a clause of two literals, which needs none, its place.
+    /// Where its copy stands.
     pub from: u32,
     /// The number of a literal of it: while it is true the clause need not be looked at.
     pub blocker: u32,
-    /// Whether the clause has two literals.
-    pub is_pair: bool,
 }
 
 /// What a clause comes to when a literal that it is watched at became false.
@@ -85,11 +81,10 @@ fn turn_among(trail: &Trail, head: &mut [u32], lits: &mut [u32], off: u32) -> Tu
     requires head { 3 ≤ length head.old }
     requires lits { 2 ≤ length lits.old }
 {
-    if lits[0] == off {
-        lits[0] = lits[1];
-        lits[1] = off;
-    }
-    let other = lits[0];
+    // One of the first two is the false one. Which is hard to foresee, so no branch asks for it.
+    let other = lits[0] ^ lits[1] ^ off;
+    lits[0] = other;
+    lits[1] = off;
     if trail.has_number(other as usize) {
         return Turn::Satisfied(other);
     }
@@ -103,6 +98,17 @@ fn turn_among(trail: &Trail, head: &mut [u32], lits: &mut [u32], off: u32) -> Tu
         head[2] = at as u32;
     }
     Turn::Moved(other, found)
+}
+
+/// The number of a literal of the clause beside these two.
+fn third_of(lits: &[Lit], first: u32, second: u32) -> Option<u32> {
+    for lit in lits {
+        let code = code_of(*lit);
+        if code != first && code != second {
+            return Some(code);
+        }
+    }
+    None
 }
 
 /// How many words the copy that begins at this word takes; none where it was deleted.
@@ -119,24 +125,20 @@ fn count_at(words: &[u32], from: u32) -> usize
 fn name_places(list: &mut Vec<Watch>, words: &[u32]) {
     for watch in list {
         let is_live = count_at(words, watch.from) > 0;
-        if !watch.is_pair {
-            watch.from = match words.get(watch.from as usize) {
-                Some(place) if is_live => *place,
-                _ => NOWHERE,
-            };
-        }
+        watch.from = match words.get(watch.from as usize) {
+            Some(place) if is_live => *place,
+            _ => NOWHERE,
+        };
     }
 }
 
 /// Puts there where the copies stand.
 fn name_copies(list: &mut Vec<Watch>, copies: &[u32]) {
     for watch in list {
-        if !watch.is_pair {
-            watch.from = match copies.get(watch.from as usize) {
-                Some(from) => *from,
-                None => NOWHERE,
-            };
-        }
+        watch.from = match copies.get(watch.from as usize) {
+            Some(from) => *from,
+            None => NOWHERE,
+        };
     }
 }
 
@@ -146,6 +148,8 @@ fn name_copies(list: &mut Vec<Watch>, copies: &[u32]) {
 /// a look at a clause that goes to another list is a look at few words that stand together.
 #[derive(Drop)]
 pub struct Watches {
+    /// The clauses of two or three literals.
+    pub shorts: Shorts,
     alloc: Global,
     lists: Vec<Vec<Watch>>,
     words: Vec<u32>,
@@ -161,6 +165,7 @@ impl Watches {
     /// No clause is watched.
     pub fn new(alloc: Global) -> Self {
         Watches {
+            shorts: Shorts::new(alloc),
             alloc,
             lists: Vec::new(alloc),
             words: Vec::new(alloc),
@@ -176,11 +181,16 @@ impl Watches {
         self.copies.clear();
         self.dead = 0;
         let count = 2 * (variables as usize + 1);
-        self.count = count;
-        for list in self.lists.iter_mut().take(count) {
+        for list in self.lists.iter_mut().take(self.count) {
             list.clear();
         }
-        'more: while self.lists.len() < count {
+        self.count = count;
+        self.shorts.reset(count)
+    }
+
+    /// Makes room for the list of a literal.
+    fn reach(&mut self, index: usize) -> Result<(), AllocError> {
+        'more: while self.lists.len() <= index {
             self.lists.push(Vec::new(self.alloc))?;
         }
         Ok(())
@@ -201,9 +211,10 @@ impl Watches {
             return self.pass();
         }
         let (first, second) = (code_of(first), code_of(second));
-        if lits.len() == 2 {
+        if lits.len() <= 3 {
             self.copies.push(NOWHERE)?;
-            return self.watch_at(place as u32, first, second, true);
+            let third = third_of(lits, first, second);
+            return self.shorts.add(place as u32, first, second, third);
         }
         let from = from as u32;
         self.words
@@ -211,7 +222,7 @@ impl Watches {
         self.copy(lits, first, second)?;
         self.close_copy(from);
         self.copies.push(from)?;
-        self.watch_at(from, first, second, false)
+        self.watch_at(from, first, second)
     }
 
     /// Copies the literals of a clause but these two.
@@ -237,6 +248,10 @@ impl Watches {
     /// Puts a clause on a list.
     pub fn put(&mut self, lit: u32, watch: Watch) -> Result<(), AllocError> {
         let index = lit as usize;
+        if index >= self.count {
+            return Ok(());
+        }
+        self.reach(index)?;
         if index < self.lists.len() {
             self.lists[index].push(watch)?;
         }
@@ -292,19 +307,12 @@ impl Watches {
     }
 
     /// Puts a clause on the lists of these two literals.
-    fn watch_at(
-        &mut self,
-        from: u32,
-        first: u32,
-        second: u32,
-        is_pair: bool,
-    ) -> Result<(), AllocError> {
+    fn watch_at(&mut self, from: u32, first: u32, second: u32) -> Result<(), AllocError> {
         self.put(
             first,
             Watch {
                 from,
                 blocker: second,
-                is_pair,
             },
         )?;
         self.put(
@@ -312,7 +320,6 @@ impl Watches {
             Watch {
                 from,
                 blocker: first,
-                is_pair,
             },
         )
     }

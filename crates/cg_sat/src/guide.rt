@@ -6,11 +6,18 @@
 use crate::merits::Merits;
 use crate::order::Order;
 use crate::watches::Watches;
-use cg_formula::Lit;
+use cg_formula::{Formula, Lit};
 use std::alloc::{AllocError, Global};
 
 /// No clause.
 const NOWHERE: usize = usize::MAX;
+
+/// Whether a formula ends with a unit clause, as that of a claim ends with its goal: what the goal rests on stands before it, and is decided
+/// from there.
+fn has_goal(formula: &Formula) -> bool {
+    let count = formula.clauses.len();
+    count > 0 && formula.clauses.at(count - 1).len() == 1
+}
 
 /// What guides the search.
 #[derive(Drop)]
@@ -45,10 +52,14 @@ impl Guide {
         }
     }
 
-    /// For a formula of so many variables. The buffers stay.
-    pub fn reset(&mut self, variables: u32) -> Result<(), AllocError> {
+    /// For a formula. The buffers stay.
+    pub fn reset(&mut self, formula: &Formula) -> Result<(), AllocError> {
+        let variables = formula.variables;
         self.watches.reset(variables)?;
         self.order.reset(variables)?;
+        if !has_goal(formula) {
+            self.order.weigh(formula);
+        }
         self.merits.reset();
         self.taken = 0;
         self.fixed = 0;

@@ -408,6 +408,7 @@ pub fn learn(
         return Ok(Lesson::Empty(take_hints(alloc, work)));
     };
     let Some(from) = level_of(trail, top) else {
+        guide.order.end();
         refute(work, guide, clauses, trail, top)?;
         return Ok(Lesson::Empty(take_hints(alloc, work)));
     };

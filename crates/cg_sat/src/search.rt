@@ -299,7 +299,7 @@ impl Solver {
         let mut draft = LogDraft::new(alloc, formula, buffer)?;
         self.trail.clear();
         self.work.fit(count)?;
-        self.guide.reset(formula.variables)?;
+        self.guide.reset(formula)?;
         let problem = Problem {
             alloc,
             formula,

@@ -1,6 +1,6 @@
 use Rattle.std.proofs.Common.{List, ℕ, not, subst}
 use Rattle.cg_hold.proofs.ConeShown.{idle_in_cone}
-use Rattle.cg_hold.specs.inner.Words.{IsWord, lane}
+use Rattle.cg_word.specs.Words.{IsWord, lane}
 use Rattle.cg_machine.specs.Claims.{literal_bit}
 use Rattle.cg_netlist.specs.Moment.{bit}
 use Rattle.cg_hold.proofs.cone_cycles.ConeCycles.show_idle.Goals as goal

@@ -1,6 +1,6 @@
 use Rattle.std.proofs.Common.{◌≡◌, slice_index_or, ◌∙◌, ap, subst, bit_and}
 use Rattle.cg_hold.proofs.Cycled.{move_seen}
-use Rattle.cg_hold.specs.inner.Words.{HasOne}
+use Rattle.cg_word.specs.Words.{HasOne}
 use Rattle.cg_hold.proofs.cycles.Cycles.show_move.Goals as goal
 
 pub returns : goal.returns

@@ -18,9 +18,8 @@ use Rattle.cg_cell.specs.Domain.{Seen}
 use Rattle.cg_cell.specs.Eval.{bits_at}
 use Rattle.cg_cell.specs.Gates.{exclusive_or}
 use Rattle.cg_netlist.specs.Moment.{bit, values_at}
-use Rattle.cg_hold.specs.inner.Words.{HasOne, IsWord, LANES, WORDS, lane, lane_bit, word_not, words_ops}
-use Rattle.cg_hold.specs.inner.WordsLaws.{and_bit, not_bit}
-use Rattle.cg_aig.proofs.Inputs.{numbers_same}
+use Rattle.cg_word.specs.Words.{HasOne, IsWord, LANES, WORDS, lane, lane_bit, word_not, words_ops}
+use Rattle.cg_word.specs.inner.WordsLaws.{and_bit, not_bit}
 
 pub zero_bit : (i : ℕ) → lane_bit i 0 ≡ false
 zero_bit i = ap (λ n. n == 1) (bit_at-zero i)
@@ -73,6 +72,10 @@ lane_values i words (net ∷ nets) =
 
 pub lane_set : (i : ℕ) (words : List ℕ) (k word : ℕ) → lane i (set words k word) ≡ set (lane i words) k (lane_bit i word)
 lane_set i words k word = map-set (lane_bit i) words k word
+
+numbers_same : (words : List ℕ) → map (λ a. a) words ≡ words
+numbers_same [] = refl
+numbers_same (word ∷ words) = ap (λ (rest : List ℕ). word ∷ rest) (numbers_same words)
 
 -- an evaluation over words gives in each lane the value at the bits of that lane
 pub evaluated : (word : ℕ) (inputs : List ℕ) (value : List Bool → Bool) (t : Seen) (run : Run)

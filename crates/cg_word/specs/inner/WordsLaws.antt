@@ -7,7 +7,7 @@ use Rattle.std.proofs.Common.{◌∙◌, arith, sym, append-nil, ap}
 use Rattle.std.proofs.lemmas.Nat.Bits.{bit_at-lt, bit_at-zero, bit_at_and, bit_at_cat_low, bit_at_not, bit_at_ones}
 use Rattle.std.proofs.lemmas.Bool.Decides.{nat_tests}
 use Rattle.cg_cell.specs.Domain.{IsDomain, Keeps, Seen}
-use Rattle.cg_hold.specs.inner.Words.{LANES, WORDS, lane_bit, word_not, words_ops}
+use Rattle.cg_word.specs.Words.{LANES, WORDS, lane_bit, word_not, words_ops}
 
 same : (s : Seen) → Keeps words_ops s s
 same s = record {

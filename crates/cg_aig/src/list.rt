@@ -293,12 +293,12 @@ fn put_pair(
     ensures unchanged { OnErr result (pairs.new.keys ≡ pairs.old.keys) }
     ensures small { leaves + length pairs.new.keys ≤ MOST_CLAIM_NODES }
 {
-    if let Some(k) = pairs.get_index_of(&pair) {
+    if leaves as usize + pairs.len() < MOST_CLAIM_NODES as usize {
+        let (k, _) = pairs.insert_full(pair)?;
         return Ok(AigLit::of(2 * (1 + leaves + k as u32)));
     }
-    if leaves as usize + pairs.len() >= MOST_CLAIM_NODES as usize {
-        return Err(AigFault::Limit(Limit::ClaimNodes));
+    match pairs.get_index_of(&pair) {
+        Some(k) => Ok(AigLit::of(2 * (1 + leaves + k as u32))),
+        None => Err(AigFault::Limit(Limit::ClaimNodes)),
     }
-    let (k, _) = pairs.insert_full(pair)?;
-    Ok(AigLit::of(2 * (1 + leaves + k as u32)))
 }

@@ -9,6 +9,7 @@ ghost use Rattle.cg_blif_text.specs.OpenCovers.{cover_so_far, with_row};
 use cg_blif_text::statement::Word;
 use cg_cell::cover::Cover;
 use cg_cell::rows::CoverRows;
+use cg_cell::shared_covers::SharedCovers;
 use cg_list::Seq;
 use std::alloc::{AllocError, Global};
 use std::marker::Model;
@@ -79,11 +80,14 @@ impl<'a> OpenCover<'a> {
         Ok(true)
     }
 
-    /// The inputs, the output and the cover of the rows.
-    pub fn close(self) -> (Seq<Word<'a>>, Word<'a>, Cover)
-        ensures inputs { result.0 ≡ self.entry.inputs }
-        ensures output { result.1 ≡ self.entry.output }
-        ensures cover { result.2 ≡ cover_so_far self.entry }
+    /// The inputs, the output and the cover of the rows, which is one of the shared ones.
+    pub fn close(
+        self,
+        covers: &mut SharedCovers,
+    ) -> Result<(Seq<Word<'a>>, Word<'a>, Cover), AllocError>
+        ensures inputs { IfOk result (λ closed. closed.0 ≡ self.entry.inputs) }
+        ensures output { IfOk result (λ closed. closed.1 ≡ self.entry.output) }
+        ensures cover { IfOk result (λ closed. closed.2 ≡ cover_so_far self.entry) }
         ensures fits { CoverFits (length self.entry.inputs) (cover_so_far self.entry) }
         ensures few { length self.entry.inputs ≤ MOST_COVER_INPUTS }
     {
@@ -93,8 +97,8 @@ impl<'a> OpenCover<'a> {
             rows,
             on,
         } = self;
-        let cover = Cover::new(rows, on.unwrap_or(true));
-        (inputs, output, cover)
+        let cover = covers.cover(rows, on.unwrap_or(true))?;
+        Ok((inputs, output, cover))
     }
 }
 

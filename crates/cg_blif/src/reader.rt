@@ -29,6 +29,7 @@ use cg_blif_text::fault::{BlifFault, LineFault};
 use cg_blif_text::statement::{Place, Statement, Word};
 use cg_cell::library::Library;
 use cg_cell::name::Name;
+use cg_cell::shared_covers::SharedCovers;
 use cg_netlist::netlist::Netlist;
 use cg_netlist_builder::builder::Builder;
 use cg_netlist_parts::fault::NetFault;
@@ -175,7 +176,7 @@ fn hear_lines<'a>(
         }
     }
     let cover = reading.cover.take();
-    match close(&mut reading.builder, &mut buffers.names, cover) {
+    match close(&mut reading.builder, &mut buffers.closing, cover) {
         Ok(()) => Ok(()),
         Err(refusal) => Err(at_line(0, refusal)),
     }
@@ -187,7 +188,7 @@ fn close_at<'a>(reading: &mut Reading<'a>, buffers: &mut Buffers<'a>, number: u6
     ensures { ClosesAt reading.old number result }
 {
     let cover = reading.cover.take();
-    match close(&mut reading.builder, &mut buffers.names, cover) {
+    match close(&mut reading.builder, &mut buffers.closing, cover) {
         Ok(()) => BlifFault::BadLine(number),
         Err(refusal) => at_line(0, refusal),
     }
@@ -207,18 +208,27 @@ fn read_line<'a>(
     if is_row(&buffers.words) {
         reading.read_row(buffers)
     } else {
-        let words = mem::replace(&mut buffers.words, Vec::new(alloc));
-        reading.read_command(alloc, library, words, &mut buffers.names)
+        // The next line is likely to have as many words, where they are few.
+        let room = Vec::with_capacity(alloc, buffers.words.len().min(8))?;
+        let words = mem::replace(&mut buffers.words, room);
+        reading.read_command(alloc, library, words, &mut buffers.closing)
     }
 }
 
-/// Room for the words of a line, for the places of a row and for the inputs of a cell. What is in a list is put there by
+/// Room for the words of a line and for the places of a row, and what covers are closed with. What is in a list is put there by
 /// whoever takes it. A command keeps the list of its words, and the next line gets a new one.
 #[derive(Drop)]
 struct Buffers<'a> {
     words: Vec<Word<'a>>,
     places: Vec<Option<bool>>,
+    closing: Closing<'a>,
+}
+
+/// Room for the inputs of a cell, and the covers that cells share.
+#[derive(Drop)]
+struct Closing<'a> {
     names: Vec<&'a [u8]>,
+    covers: SharedCovers,
 }
 
 impl<'a> Buffers<'a> {
@@ -227,7 +237,10 @@ impl<'a> Buffers<'a> {
         Buffers {
             words: Vec::new(alloc),
             places: Vec::new(alloc),
-            names: Vec::new(alloc),
+            closing: Closing {
+                names: Vec::new(alloc),
+                covers: SharedCovers::new(alloc),
+            },
         }
     }
 }
@@ -248,7 +261,7 @@ impl<'a> Reading<'a> {
         alloc: Global,
         library: &Library,
         words: Vec<Word<'a>>,
-        names: &mut Vec<&'a [u8]>,
+        closing: &mut Closing<'a>,
     ) -> Result<(), Refusal>
         requires at { IsAt self.old }
         requires named { list_all is_name words.items ≡ true }
@@ -256,7 +269,7 @@ impl<'a> Reading<'a> {
         ensures { Resumes library.now self.old self.new words.entry.items result }
     {
         let cover = self.cover.take();
-        close(&mut self.builder, names, cover)?;
+        close(&mut self.builder, closing, cover)?;
         let meaning = statement_of(alloc, words)?;
         if let Some(cause) = misplaced(self.place, is_model(&meaning)) {
             return Err(Refusal::Line(cause));
@@ -286,7 +299,7 @@ impl<'a> Reading<'a> {
                     self.cover = Some(cover);
                     return Ok(());
                 }
-                close(&mut self.builder, &mut buffers.names, Some(cover))?;
+                close(&mut self.builder, &mut buffers.closing, Some(cover))?;
                 Err(Refusal::Line(LineFault::BadCover))
             }
         }
@@ -303,10 +316,10 @@ fn is_row(words: &[Word<'_>]) -> bool
     }
 }
 
-/// Gives the logic cell of an open cover, where there is one, to the builder. `names` is taken for its inputs.
+/// Gives the logic cell of an open cover, where there is one, to the builder.
 fn close<'a>(
     builder: &mut Builder,
-    names: &mut Vec<&'a [u8]>,
+    closing: &mut Closing<'a>,
     cover: Option<OpenCover<'a>>,
 ) -> Result<(), Refusal>
     requires { builder.old.refused ≡ None }
@@ -315,8 +328,14 @@ fn close<'a>(
     match cover {
         None => Ok(()),
         Some(cover) => {
-            let (inputs, output, cover) = cover.close();
-            add_cover(builder, names, inputs.as_slice(), &output, cover)
+            let (inputs, output, cover) = cover.close(&mut closing.covers)?;
+            add_cover(
+                builder,
+                &mut closing.names,
+                inputs.as_slice(),
+                &output,
+                cover,
+            )
         }
     }
 }

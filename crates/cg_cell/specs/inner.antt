@@ -1,3 +1,4 @@
 pub mod BitsLaws
 pub mod CellParts
+pub mod CoverParts
 pub mod CutRows

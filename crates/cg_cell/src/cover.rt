@@ -1,48 +1,69 @@
 //! Covers: functions as rows of given bits, as `.names` lines of BLIF write them.
 
-ghost use Rattle.std.specs.Prelude.{◌≡◌, [], true, length};
+ghost use Rattle.std.specs.Prelude.{◌≡◌, [], true, length, IfOk};
 ghost use Rattle.cg_cell.specs.Cover.{CoverData, CoverFits, IsCover, agrees, cover_value, row_matches};
 ghost use Rattle.std.specs.List.{AllByRecursion, list_any};
 
 use crate::rows::CoverRows;
 use std::alloc::AllocError;
 use std::marker::Model;
+use std::rc::Rc;
 
 /// A function as rows, and the value that it has where some row matches.
 ///
-/// Clauses see a cover as its rows and that value.
+/// Clauses see a cover as its rows and that value. Clones of a cover share them.
 #[derive(Drop)]
 pub struct Cover {
-    rows: CoverRows,
-    on: bool,
+    parts: Rc<Parts>,
 }
 
 impl Model for Cover {
+    ghost use Rattle.cg_cell.specs.Cover.{CoverData, IsCover};
+    ghost use Rattle.cg_cell.specs.inner.CoverParts.{seen};
+
     ghost Value = { CoverData };
 
-    ghost view = { λ cover. record { rows = cover.rows; on = cover.on } };
+    ghost view = { λ cover. seen cover.parts.value };
 
-    ghost invariant = { λ cover. IsCover (record { rows = cover.rows; on = cover.on }) };
+    ghost invariant = { λ cover. IsCover (seen cover.parts.value) };
+}
+
+/// What a cover is made of.
+#[derive(Drop)]
+struct Parts {
+    rows: CoverRows,
+    on: bool,
 }
 
 impl Clone for Cover {
     ghost is_clone = { λ x y. y ≡ x };
 
     fn clone(&self) -> Result<Cover, AllocError> {
-        let rows = self.rows.clone()?;
-        Ok(Cover { rows, on: self.on })
+        let parts = self.parts.clone()?;
+        Ok(Cover { parts })
     }
 }
 
 impl Cover {
-    /// A cover of the rows, with the value `on` where some row matches.
+    /// A cover of the rows, with the value `on` where some row matches; an error where memory is wanting.
     /// Without rows the cover is 0, and `on` must be true.
-    pub fn new(rows: CoverRows, on: bool) -> Cover
+    pub fn new(rows: CoverRows, on: bool) -> Result<Cover, AllocError>
         requires { rows ≡ [] → on ≡ true }
-        ensures { result ≡ record { rows = rows; on = on } }
+        ensures { IfOk result (λ cover. cover ≡ record { rows = rows; on = on }) }
     {
+        let alloc = rows.allocator();
         let _ = rows.len();
-        Cover { rows, on }
+        let parts = Parts { rows, on };
+        Ok(Cover {
+            parts: Rc::new(alloc, parts)?,
+        })
+    }
+
+    /// Whether these are the rows of the cover, and this its value where some row matches.
+    pub(crate) fn is_of(&self, rows: &CoverRows, on: bool) -> bool
+        ensures { result ≡ true → self.now ≡ record { rows = rows.now; on = on } }
+    {
+        self.parts.on == on && self.parts.rows.are(rows)
     }
 
     /// The rows in their order.
@@ -50,14 +71,14 @@ impl Cover {
         ensures rows { result.now ≡ self.now.rows }
         ensures cover { IsCover self.now }
     {
-        &self.rows
+        &self.parts.rows
     }
 
     /// The value where some row matches.
     pub fn on(&self) -> bool
         ensures { result ≡ self.now.on }
     {
-        self.on
+        self.parts.on
     }
 
     /// The bit of the function: `on` where some row matches, and else its inverse.
@@ -67,10 +88,10 @@ impl Cover {
         requires { CoverFits (length bits.now) self.now }
         ensures { result ≡ cover_value self.now bits.now }
     {
-        if any_matches(&self.rows, bits) {
-            self.on
+        if any_matches(&self.parts.rows, bits) {
+            self.parts.on
         } else {
-            !self.on
+            !self.parts.on
         }
     }
 }

@@ -8,6 +8,7 @@
 //!
 //! - [`name`]: the names of nets, cells and pins;
 //! - [`rows`], [`cover`]: a function as rows of given bits;
+//! - [`shared_covers`]: covers that cells share;
 //! - [`expr`]: a function as an expression over numbered variables;
 //! - [`lone`]: expressions that are one variable;
 //! - [`cell`]: cells of a library, with their kind, their pins and their function;
@@ -32,3 +33,4 @@ pub mod library;
 pub mod lone;
 pub mod name;
 pub mod rows;
+pub mod shared_covers;

@@ -1,6 +1,6 @@
 //! The rows of a cover, in one list.
 
-ghost use Rattle.std.specs.Prelude.{◌≡◌, ◌<◌, ◌++◌, ◌∷◌, [], length, get_or, IfOk, ◌+◌, if◌then◌else◌, is_ok};
+ghost use Rattle.std.specs.Prelude.{◌≡◌, ◌<◌, ◌++◌, ◌∷◌, [], length, get_or, IfOk, ◌+◌, if◌then◌else◌, is_ok, true};
 ghost use Rattle.cg_cell.specs.Cover.{HaveOneLength};
 
 use smallvec::SmallVec;
@@ -58,6 +58,21 @@ impl CoverRows {
         }
     }
 
+    /// Where the rows take memory from.
+    pub(crate) fn allocator(&self) -> Global {
+        *self.places.allocator()
+    }
+
+    /// Whether others are the same rows.
+    pub(crate) fn are(&self, others: &CoverRows) -> bool
+        ensures { result ≡ true → self.now ≡ others.now }
+    {
+        let places = self.places.as_slice();
+        self.width == others.width
+            && self.count == others.count
+            && are_same(places, others.places.as_slice())
+    }
+
     /// How many rows there are.
     pub fn len(&self) -> usize
         ensures count { result ≡ length self.now }
@@ -98,5 +113,31 @@ fn one_more(count: usize) -> Result<usize, AllocError>
     match count.checked_add(1) {
         None => Err(AllocError),
         Some(more) => Ok(more),
+    }
+}
+
+/// Whether two lists have the same places.
+fn are_same(some: &[Option<bool>], others: &[Option<bool>]) -> bool
+    ensures { result ≡ true → some.now ≡ others.now }
+{
+    if some.len() != others.len() {
+        return false;
+    }
+    'places: for k in 0..some.len() {
+        if !is_same(some[k], others[k]) {
+            return false;
+        }
+    }
+    true
+}
+
+/// Whether two places are the same.
+fn is_same(place: Option<bool>, other: Option<bool>) -> bool
+    ensures { result ≡ true → place ≡ other }
+{
+    match (place, other) {
+        (None, None) => true,
+        (Some(bit), Some(own)) => bit == own,
+        _ => false,
     }
 }

@@ -27,7 +27,7 @@ pub none_any : (ys : List ℕ) → list_any (is_in []) ys ≡ false
 none_any [] = refl
 none_any (y ∷ ys) = none_any ys
 
-feeds_nil : (m : MachineData) (r : ℕ) → feeds m [] r ≡ false
+pub feeds_nil : (m : MachineData) (r : ℕ) → feeds m [] r ≡ false
 feeds_nil m r = go (slice_get m.circuit.registers r)
   where
     go : (o : Option (RegisterCell ℕ ℕ)) → option_map_or (λ cell. list_any (is_in []) (shown_nets cell)) o false ≡ false

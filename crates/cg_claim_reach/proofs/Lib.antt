@@ -1,4 +1,5 @@
 pub mod ConesFound
+pub mod EarlyClaims
 pub mod Filtering
 pub mod Leading
 pub mod LeavesReached

@@ -1,3 +1,4 @@
+pub mod Early
 pub mod Found
 pub mod Learning
 pub mod Sources

@@ -40,7 +40,8 @@ pub(crate) fn leaves(
     ensures { IfOk result (λ leaves. leaves ≡ map shown_leaf (leaves_of machine.now (question_of asked.now))) }
 {
     let room = before.inputs.len().saturating_add(before.registers.len());
-    let mut leaves = Vec::with_capacity(alloc, room)?;
+    // The sides may ask for two registers more.
+    let mut leaves = Vec::with_capacity(alloc, room.saturating_add(2))?;
     let registers = before_states(alloc, machine, asked, named, before, later)?;
     push_inputs(0, before.inputs.as_slice(), &mut leaves)?;
     push_registers(0, registers.as_slice(), &mut leaves)?;

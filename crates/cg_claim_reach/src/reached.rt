@@ -1,18 +1,20 @@
 //! What a claim reaches in each copy of the machine, and its leaves.
 
-ghost use Rattle.std.specs.Prelude.{◌≡◌, map, IfOk};
+ghost use Rattle.std.specs.Prelude.{◌≡◌, ◌↔◌, [], map, IfOk, IsTrue};
 ghost use Rattle.cg_netlist_cone.specs.Cone.{cone_of};
-ghost use Rattle.cg_machine.specs.Machine.{walk_of};
+ghost use Rattle.cg_machine.specs.Machine.{MachineData, walk_of};
+ghost use Rattle.cg_claim.specs.Question.{Question};
 ghost use Rattle.cg_claim.specs.Leaves.{leaves_of, shown_leaf};
 ghost use Rattle.cg_claim.specs.Reach.{before_nets, enable_nets, sides_nets};
 ghost use Rattle.cg_claim_reach.specs.Asking.{AsksThere, copy_of, question_of};
+ghost use Rattle.cg_claim_reach.specs.inner.Early.{IsEarly};
 ghost use Rattle.cg_claim_reach.specs.inner.Found.{AreSetsOf, IsLater};
 ghost use Rattle.cg_claim_reach.specs.Reached.{IsConeOf, IsReached};
 
 use crate::asked::{Asked, Frame};
 use crate::leaves::leaves;
 use crate::named::Named;
-use crate::roots::{push_enables, push_origins, push_sides};
+use crate::roots::{is_same, push_enables, push_origins, push_sides};
 use crate::sources::{after_states, changed_states};
 use crate::unseen::UnseenRegs;
 use cg_claim::leaf::Leaf;
@@ -121,7 +123,7 @@ impl Reacher {
         })
     }
 
-    /// What a claim reaches in the copies after the first.
+    /// What a claim reaches in the copies after the first: nothing where it says something of the first cycle alone.
     fn later_copies(
         &mut self,
         machine: &Machine,
@@ -132,6 +134,9 @@ impl Reacher {
         requires named { AreSetsOf asked.now.follows.now asked.now.changes.now named.now }
         ensures { IfOk result (IsLater machine.now (question_of asked.now)) }
     {
+        if is_early(asked) {
+            return Ok(nothing_later(self.alloc));
+        }
         let changed = self.later_cone(machine, asked, Frame::Changed)?;
         let after = self.later_cone(machine, asked, Frame::After)?;
         let moved = changed_states(self.alloc, machine, asked, &changed)?;
@@ -203,5 +208,40 @@ impl Reacher {
         push_origins(machine, &named.follows, states, &mut roots)?;
         let cone = self.cones.find(machine, &roots)?;
         Ok(cone)
+    }
+}
+
+/// Whether both sides of a claim, where it has some, are of the first cycle.
+fn is_early(asked: &Asked<'_>) -> bool
+    ensures { IsTrue result ↔ IsEarly (question_of asked.now).sides }
+{
+    match &asked.sides {
+        None => true,
+        Some((one, other)) => {
+            is_same(one.frame, Frame::Before) && is_same(other.frame, Frame::Before)
+        }
+    }
+}
+
+/// What a claim reaches later that says something of the first cycle alone; takes no memory.
+fn nothing_later(alloc: Global) -> Later
+    ensures { (m : MachineData) (q : Question) → IsEarly q.sides → IsLater m q result }
+{
+    Later {
+        after: no_cone(alloc),
+        changed: no_cone(alloc),
+        states: Seq::new(alloc),
+        moved: Seq::new(alloc),
+    }
+}
+
+/// The cone of no nets; takes no memory.
+fn no_cone(alloc: Global) -> Cone
+    ensures { result ≡ record { cells = []; inputs = []; registers = [] } }
+{
+    Cone {
+        cells: Seq::new(alloc),
+        inputs: Seq::new(alloc),
+        registers: Seq::new(alloc),
     }
 }

@@ -168,7 +168,8 @@ pub(crate) fn before_states(
     ensures { IfOk result (λ regs. regs ≡ filter (before_states machine.now (question_of asked.now)) (registers_of machine.now)) }
 {
     let _netlist = machine.netlist();
-    let mut numbers = Vec::with_capacity(alloc, before.registers.len())?;
+    let room = before.registers.len().saturating_add(2);
+    let mut numbers = Vec::with_capacity(alloc, room)?;
     push_all(before.registers.as_slice(), &mut numbers)?;
     push_asked(machine, asked, Frame::Before, &mut numbers)?;
     push_origins(

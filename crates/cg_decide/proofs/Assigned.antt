@@ -5,7 +5,7 @@ use Rattle.std.specs.Int.{bit_at, w64}
 use Rattle.std.specs.Int.Bits.{bit_and}
 use Rattle.std.proofs.Common.{◌∙◌, sym, ap, arith}
 use Rattle.std.proofs.Math.Nat.{pow-suc}
-use Rattle.std.proofs.lemmas.Bool.{eqb-false, eqb-true}
+use Rattle.std.proofs.lemmas.Bool.{and_parts, eqb-false, eqb-true}
 use Rattle.std.proofs.lemmas.Nat.Bits.{bit_at-lt, bit_at-zero, bit_at_and, bit_at_cat_high, bit_at_cat_low, bit_at_not, bit_at_ones}
 use Rattle.std.proofs.lemmas.Nat.{one_shl, pow-add}
 use Rattle.std.proofs.lemmas.Bool.Decides.{nat_tests}
@@ -65,21 +65,13 @@ all_lanes : ℕ → (ℕ → Bool) → Bool
 all_lanes zero test = true
 all_lanes (suc n) test = test n && all_lanes n test
 
-and_left : (a b : Bool) → (a && b) ≡ true → a ≡ true
-and_left true b h = refl
-and_left false b h = h
-
-and_right : (a b : Bool) → (a && b) ≡ true → b ≡ true
-and_right true b h = h
-and_right false b h = cc
-
 in_lane : (n : ℕ) (test : ℕ → Bool) (i : ℕ) → all_lanes n test ≡ true → i < n → test i ≡ true
 unfolding all_lanes
 in_lane zero test i h below = absurd (omega arith)
-in_lane (suc n) test i h below = by (i == n) refl (in_lane n test i (and_right (test n) (all_lanes n test) h))
+in_lane (suc n) test i h below = by (i == n) refl (in_lane n test i (and_parts _ _ h).1)
   where
     by : (same : Bool) → (i == n) ≡ same → (i < n → test i ≡ true) → test i ≡ true
-    by true e rest = ap test (eqb-true i n e) ∙ and_left (test n) (all_lanes n test) h
+    by true e rest = ap test (eqb-true i n e) ∙ (and_parts _ _ h).0
     by false e rest = rest (let f = eqb-false i n e in omega arith)
 
 -- a word whose lanes have this bit of their numbers is that of this leaf, if this bit is one of the six of a lane's number

@@ -121,7 +121,7 @@ module _ (c : Circuit) (good : IsWellFormed c) where
     }
 
 -- functions that agree at each place
-map_same_at : {X : Type 0} (f g : X → Bool) (xs : List X) → ((k : ℕ) (x : X) → slice_get xs k ≡ Some x → f x ≡ g x) → map f xs ≡ map g xs
+pub map_same_at : {X : Type 0} (f g : X → Bool) (xs : List X) → ((k : ℕ) (x : X) → slice_get xs k ≡ Some x → f x ≡ g x) → map f xs ≡ map g xs
 map_same_at f g [] same = refl
 map_same_at f g (x ∷ xs) same =
     let first : f x ≡ g x = same 0 x refl in

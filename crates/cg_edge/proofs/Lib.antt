@@ -7,6 +7,7 @@ pub mod Follows
 pub mod Laid
 pub mod GaterOrder
 pub mod Latched
+pub mod Low
 pub mod Marked
 pub mod Moved
 pub mod Puts

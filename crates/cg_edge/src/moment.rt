@@ -50,6 +50,18 @@ fn move_registers(
     }
 }
 
+/// Keeps the bits of the nets where the clock is high: registers move from them. At a low clock no clock net is high, and
+/// none moves.
+fn keep(clock: bool, nets: &[bool], before: &mut [bool])
+    requires { length before.old ≡ length nets.now }
+    ensures kept { clock ≡ true → before.new ≡ nets.now }
+    ensures long { length before.new ≡ length before.old }
+{
+    if clock {
+        before.copy_from_slice(nets);
+    }
+}
+
 /// Moves all bits to the next moment: those of the clock nets, of the registers, of the other nets, and of the latches.
 pub(crate) fn advance(
     schedule: &Schedule<'_>,
@@ -78,7 +90,7 @@ pub(crate) fn advance(
     let before = bits.before.as_mut_slice();
     let state = bits.state.as_mut_slice();
     let latches = bits.latches.as_mut_slice();
-    before.copy_from_slice(nets);
+    keep(clock, nets, before);
     drive(netlist, &schedule.chain, clock, latches, nets);
     move_registers(schedule, ticked, before, nets, state, &mut bits.rose, marks);
     put_inputs(netlist, &schedule.readers, inputs, nets, marks);

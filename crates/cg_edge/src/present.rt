@@ -10,7 +10,7 @@ use std::alloc::{AllocError, Global};
 #[derive(Drop)]
 pub(crate) struct Bits {
     pub(crate) nets: Vec<bool>,
-    // Room for the bits of nets of the moment before, while a tick goes on.
+    // Room for the bits of nets of the moment before, while a tick goes on whose clock is high.
     pub(crate) before: Vec<bool>,
     pub(crate) state: Vec<bool>,
     pub(crate) latches: Vec<bool>,

@@ -11,14 +11,14 @@ use Rattle.cg_cell.specs.Gates.{exclusive_or}
 use Rattle.cg_claim.specs.LeafBits.{is_never}
 use Rattle.cg_claim.specs.Question.{hold_question, idle_question}
 use Rattle.cg_claim.specs.Reach.{inputs_of_register}
-use Rattle.cg_hold.proofs.Lanes.{lane_or, xor_bit}
+use Rattle.cg_word.proofs.Lanes.{lane_or, xor_bit}
 use Rattle.cg_hold.proofs.Layings.{are_inputs, inputs_in, some_are}
 use Rattle.cg_hold.proofs.Shown.{idle_shown, move_shown}
 use Rattle.cg_hold.specs.inner.Choosing.{IsLiteralOf}
 use Rattle.cg_hold.specs.inner.Laying.{Lays, StartsAt}
 use Rattle.cg_hold.specs.inner.Looking.{AreConeCycles, IsLook}
-use Rattle.cg_hold.specs.inner.Words.{HasOne, IsWord, LANES, lane, lane_bit}
-use Rattle.cg_hold.specs.inner.WordsLaws.{and_bit}
+use Rattle.cg_word.specs.Words.{HasOne, IsWord, LANES, lane, lane_bit}
+use Rattle.cg_word.specs.inner.WordsLaws.{and_bit}
 use Rattle.cg_machine.specs.Claims.{Literal, literal_bit}
 use Rattle.cg_machine.specs.Machine.{IsMachine, MachineData, enable_of, next, next_of, values, walk_of}
 use Rattle.cg_net.specs.NetSets.{is_in}

@@ -11,14 +11,14 @@ use Rattle.cg_machine.proofs.Settled.{wide}
 use Rattle.cg_machine.specs.Claims.{Literal, literal_bit}
 use Rattle.cg_machine.specs.Machine.{IsMachine, IsState, MachineData, walk_of}
 use Rattle.cg_netlist.specs.Moment.{bit}
-use Rattle.cg_hold.proofs.Lanes.{lane_or}
+use Rattle.cg_word.proofs.Lanes.{lane_or}
 use Rattle.cg_hold.proofs.Layings.{are_inputs, inputs_in, nets_are}
 use Rattle.cg_hold.proofs.Shown.{idle_shown, move_shown}
 use Rattle.cg_hold.specs.declared.cycles.CycleWords.{CycleWords}
 use Rattle.cg_hold.specs.inner.Cycles.{AreCycles}
 use Rattle.cg_hold.specs.inner.Laying.{AreMoves, IsStart, Lays}
-use Rattle.cg_hold.specs.inner.Words.{HasOne, IsWord, lane, lane_bit, word_not}
-use Rattle.cg_hold.specs.inner.WordsLaws.{and_bit, not_bit}
+use Rattle.cg_word.specs.Words.{HasOne, IsWord, lane, lane_bit, word_not}
+use Rattle.cg_word.specs.inner.WordsLaws.{and_bit, not_bit}
 
 pub cycles_made : (m : MachineData) → IsMachine m → (state start nets moves : List ℕ) → length state ≡ length m.circuit.registers → IsStart m state start → Lays (walk_of m) start nets → AreMoves m state nets moves
     → AreCycles m (record { nets = nets; moves = moves })

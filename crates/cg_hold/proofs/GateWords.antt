@@ -3,9 +3,9 @@ use Rattle.std.proofs.Common.{◌≡◌, ℕ, Bool, true, false, not, ◌&&◌, 
 use Rattle.std.specs.Int.Bits.{bit_and, bit_or}
 use Rattle.cg_cell.specs.Cover.{cover_value}
 use Rattle.cg_machine.specs.Gates.{and_cover, inverter_cover, or_cover}
-use Rattle.cg_hold.proofs.Lanes.{or_bit}
-use Rattle.cg_hold.specs.inner.Words.{IsWord, lane, lane_bit, word_not}
-use Rattle.cg_hold.specs.inner.WordsLaws.{and_bit, not_bit}
+use Rattle.cg_word.proofs.Lanes.{or_bit}
+use Rattle.cg_word.specs.Words.{IsWord, lane, lane_bit, word_not}
+use Rattle.cg_word.specs.inner.WordsLaws.{and_bit, not_bit}
 
 pub inverter_word : (inputs : List ℕ) → length inputs ≡ 1 → IsWord (word_not (slice_index_or inputs 0 0)) (λ i. cover_value inverter_cover (lane i inputs))
 inverter_word [] long = absurd (omega arith)

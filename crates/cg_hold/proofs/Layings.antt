@@ -8,10 +8,10 @@ use Rattle.std.proofs.lemmas.List.{length-append, length-map, length-set, length
 use Rattle.std.proofs.lemmas.Option.{slice_get-get_or, slice_get_within}
 use Rattle.cg_claim.proofs.GivenNets.{bits_given}
 use Rattle.cg_claim.specs.Build.{from_state, given, shown_by}
-use Rattle.cg_hold.proofs.Lanes.{lane_get, lane_or, lane_set, lane_values, zero_bit}
+use Rattle.cg_word.proofs.Lanes.{lane_get, lane_or, lane_set, lane_values, zero_bit}
 use Rattle.cg_hold.specs.inner.Laying.{IsStart, Lays, StartsAt}
-use Rattle.cg_hold.specs.inner.Words.{IsWord, LANES, lane, lane_bit, word_not}
-use Rattle.cg_hold.specs.inner.WordsLaws.{not_bit}
+use Rattle.cg_word.specs.Words.{IsWord, LANES, lane, lane_bit, word_not}
+use Rattle.cg_word.specs.inner.WordsLaws.{not_bit}
 use Rattle.cg_machine.proofs.PutBits.{put_cells-append}
 use Rattle.cg_machine.proofs.Settled.{settled}
 use Rattle.cg_machine.specs.Machine.{IsInputs, IsMachine, IsState, MachineData, order_of, values, walk_of}

@@ -4,7 +4,6 @@ pub mod ConeStarted
 pub mod Cycled
 pub mod Decided
 pub mod GateWords
-pub mod Lanes
 pub mod Layings
 pub mod ListNumber
 pub mod Marked

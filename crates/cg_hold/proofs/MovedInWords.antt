@@ -5,9 +5,9 @@ use Rattle.std.specs.Int.Bits.{bit_xor}
 use Rattle.std.specs.Prelude.{◌+◌}
 use Rattle.std.proofs.lemmas.List.{length-append, length-map}
 use Rattle.cg_cell.specs.Gates.{exclusive_or}
-use Rattle.cg_hold.proofs.Lanes.{lane_or, xor_bit}
+use Rattle.cg_word.proofs.Lanes.{lane_or, xor_bit}
 use Rattle.cg_hold.specs.inner.Laying.{AreMoves}
-use Rattle.cg_hold.specs.inner.Words.{IsWord, LANES, lane, lane_bit}
+use Rattle.cg_word.specs.Words.{IsWord, LANES, lane, lane_bit}
 use Rattle.cg_machine.proofs.Cycles.{delay_net_below, delay_next}
 use Rattle.cg_machine.specs.Machine.{IsMachine, MachineData, delay_cell, enable_of, next, next_of}
 use Rattle.cg_netlist.specs.Circuit.{RegisterCell}

@@ -4,5 +4,3 @@ pub mod Fitting
 pub mod Laying
 pub mod Looking
 pub mod Packed
-pub mod Words
-pub mod WordsLaws

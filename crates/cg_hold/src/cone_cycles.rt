@@ -19,11 +19,12 @@ use crate::moves::next_word;
 use crate::nets::{lay_cell, start_word};
 use crate::random::Random;
 use crate::search::Look;
-use crate::words::{has_one, zeros};
+use crate::words::zeros;
 use cg_claim::leaf::{Leaf, LeafSource};
 use cg_machine::machine::Machine;
 use cg_machine::stage::NetLit;
 use cg_net::id::{NetId, RegId};
+use cg_word::words::has_one;
 use std::alloc::{AllocError, Global};
 
 /// 64 cycles of one register, each in a lane of the words, in buffers that are kept.

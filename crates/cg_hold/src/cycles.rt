@@ -7,18 +7,19 @@ ghost use Rattle.std.specs.Prelude.{◌≡◌, ◌<◌, ◌∷◌, [], true, fal
 ghost use Rattle.cg_claim.specs.LeafBits.{is_never};
 ghost use Rattle.cg_claim.specs.Question.{hold_question, idle_question};
 ghost use Rattle.cg_hold.specs.inner.Cycles.{AreCycles};
-ghost use Rattle.cg_hold.specs.inner.Words.{IsWord, lane};
+ghost use Rattle.cg_word.specs.Words.{IsWord, lane};
 ghost use Rattle.cg_machine.specs.Claims.{literal_bit};
 ghost use Rattle.cg_netlist.specs.Moment.{bit};
 
 use crate::moves::move_words;
 use crate::nets::{lay_cells, start_words};
 use crate::random::Random;
-use crate::words::{has_one, zeros};
+use crate::words::zeros;
 use cg_list::Seq;
 use cg_machine::machine::Machine;
 use cg_machine::stage::NetLit;
 use cg_net::id::RegId;
+use cg_word::words::has_one;
 use std::alloc::{AllocError, Global};
 
 /// 64 cycles of a machine, each in a lane of these words.

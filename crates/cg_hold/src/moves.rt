@@ -5,19 +5,19 @@ ghost use Rattle.std.specs.List.{All};
 ghost use Rattle.cg_cell.specs.Pins.{is_data};
 ghost use Rattle.cg_cell.specs.declared.cell.CellKind.TheVariants.{Flop};
 ghost use Rattle.cg_hold.specs.inner.Laying.{AreMoves};
-ghost use Rattle.cg_hold.specs.inner.Words.{IsWord, lane, lane_bit};
+ghost use Rattle.cg_word.specs.Words.{IsWord, lane, lane_bit};
 ghost use Rattle.cg_machine.specs.Machine.{next};
 ghost use Rattle.cg_netlist.specs.Circuit.{RegisterCell};
 ghost use Rattle.cg_netlist.specs.History.{next_value};
 ghost use Rattle.cg_netlist.specs.Moment.{cell_value, values_at};
 
-use crate::words::{cell_word, inverse};
 use cg_cell::cell::CellType;
 use cg_machine::machine::Machine;
 use cg_net::id::{NetId, RegId};
 use cg_netlist::netlist::Netlist;
 use cg_netlist::parts::RegKind;
 use cg_netlist::walk::gather;
+use cg_word::words::{cell_word, inverse};
 use std::alloc::{AllocError, Global};
 
 /// The words that a register's function reads at most: those of its inputs and its own. A cell of a library has at most

@@ -2,18 +2,19 @@
 
 ghost use Rattle.std.specs.Prelude.{◌≡◌, ◌<◌, ◌≤◌, ◌∷◌, [], ℕ, IfOk, Some, length, slice_get};
 ghost use Rattle.cg_hold.specs.inner.Laying.{IsStart, Lays, StartsAt};
-ghost use Rattle.cg_hold.specs.inner.Words.{IsWord, lane};
+ghost use Rattle.cg_word.specs.Words.{IsWord, lane};
 ghost use Rattle.cg_machine.specs.Machine.{walk_of};
 ghost use Rattle.cg_netlist.specs.Circuit.{LogicCell};
 ghost use Rattle.cg_netlist.specs.Moment.{function_value};
 ghost use Rattle.cg_netlist.specs.Netlist.{widest_of};
 
 use crate::random::Random;
-use crate::words::{function_word, gate_word, inverse};
+use crate::words::gate_word;
 use cg_machine::machine::Machine;
 use cg_net::id::{CellId, NetId};
 use cg_netlist::driver::Driver;
 use cg_netlist::walk::{gather, put};
+use cg_word::words::{function_word, inverse};
 use std::alloc::{AllocError, Global};
 
 /// The words of the nets before cells are laid: random ones at data inputs, and at the outputs of registers what they

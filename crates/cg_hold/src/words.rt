@@ -1,119 +1,15 @@
-//! Words: 64 bits at once, each in a lane of its own.
-//!
-//! A word holds one bit of each of 64 cycles. One evaluation of a function over words serves them all.
+//! Words of added gates and of literals: 64 bits at once, one of each of 64 cycles, each in a lane of its own.
 
-ghost use Rattle.std.specs.Prelude.{◌≡◌, ◌<◌, true, not, IsTrue, length};
-ghost use Rattle.cg_cell.specs.Cell.{variables_of};
-ghost use Rattle.cg_cell.specs.Cover.{CoverFits, cover_value};
-ghost use Rattle.cg_cell.specs.Expr.{is_over, term_of};
-ghost use Rattle.cg_cell.specs.Term.{term_value};
-ghost use Rattle.cg_hold.specs.inner.Words.{HasOne, IsWord, lane, word_not};
+ghost use Rattle.std.specs.Prelude.{◌≡◌, ◌<◌, not, length};
+ghost use Rattle.cg_cell.specs.Cover.{cover_value};
 ghost use Rattle.cg_machine.specs.Gates.{HasInputs, gate_cover};
 ghost use Rattle.cg_machine.specs.Claims.{literal_bit};
-ghost use Rattle.cg_netlist.specs.Moment.{bit, cell_value, function_value};
-ghost use Rattle.cg_netlist.specs.View.{function_seen};
-ghost use Rattle.cg_netlist.specs.WellFormed.{IsOver};
+ghost use Rattle.cg_netlist.specs.Moment.{bit};
+ghost use Rattle.cg_word.specs.Words.{IsWord, lane};
 
-use cg_cell::cell::CellType;
-use cg_cell::cover::Cover;
-use cg_cell::domain::Domain;
-use cg_cell::expr::Expr;
 use cg_cell::fit::FitKind;
 use cg_machine::stage::NetLit;
-use cg_netlist::parts::Function;
-use std::convert::Infallible;
-
-/// Words as a domain. Nothing is kept, and nothing is ever refused.
-#[derive(Drop)]
-struct Words;
-
-impl Domain for Words {
-    ghost use Rattle.cg_cell.specs.Bits.{no_pairs};
-    ghost use Rattle.cg_hold.specs.inner.Words.{words_ops};
-    ghost use Rattle.cg_hold.specs.inner.WordsLaws.{words_lawful};
-
-    type Value = u64;
-
-    type Fault = Infallible;
-
-    ghost ops = { words_ops };
-
-    ghost seen = { λ _. no_pairs };
-
-    ghost number = { λ a. a };
-
-    ghost refuses = { λ s a b f. ⊥ };
-
-    fn constant(&mut self, bit: bool) -> u64 {
-        if bit { u64::MAX } else { 0 }
-    }
-
-    fn not(&mut self, a: u64) -> u64 {
-        inverse(a)
-    }
-
-    fn and(&mut self, a: u64, b: u64) -> Result<u64, Infallible> {
-        Ok(a & b)
-    }
-
-    ghost lawful = { words_lawful };
-}
-
-/// The word with the other bit in each lane.
-pub(crate) fn inverse(word: u64) -> u64
-    ensures { result ≡ word_not word }
-{
-    !word
-}
-
-/// Whether the word is 1 in some lane.
-pub(crate) fn has_one(word: u64) -> bool
-    ensures { result ≡ true → HasOne word }
-{
-    word != 0
-}
-
-/// The word of a logic cell's function at words of its inputs.
-pub(crate) fn function_word(function: Function<'_>, inputs: &[u64]) -> u64
-    requires { IsOver (length inputs.now) (function_seen function) }
-    ensures { IsWord result (λ i. function_value (function_seen function.entry) (lane i inputs.now)) }
-{
-    match function {
-        Function::Cover(cover) => cover_word(cover, inputs),
-        Function::Cell(cell) => cell_word(cell, inputs),
-    }
-}
-
-/// The word of a library cell's function, 0 where it has none, at words of its variables.
-pub(crate) fn cell_word(cell: &CellType, inputs: &[u64]) -> u64
-    requires { length inputs.now ≡ variables_of cell.now }
-    ensures { IsWord result (λ i. cell_value cell.now (lane i inputs.now)) }
-{
-    match cell.function() {
-        Some(function) => expression_word(function, inputs),
-        None => 0,
-    }
-}
-
-/// The word of a cover at words of its inputs.
-fn cover_word(cover: &Cover, inputs: &[u64]) -> u64
-    requires { CoverFits (length inputs.now) cover.now }
-    ensures { IsWord result (λ i. cover_value cover.now (lane i inputs.now)) }
-{
-    match cover.eval(&mut Words, inputs) {
-        Ok(word) => word,
-    }
-}
-
-/// The word of an expression at words of its variables.
-fn expression_word(expression: &Expr, inputs: &[u64]) -> u64
-    requires { IsTrue (is_over (length inputs.now) expression.now) }
-    ensures { IsWord result (λ i. term_value (lane i inputs.now) (term_of expression.now)) }
-{
-    match expression.eval(&mut Words, inputs) {
-        Ok(word) => word,
-    }
-}
+use cg_word::words::inverse;
 
 /// The word of an added gate at words of its inputs.
 pub(crate) fn gate_word(kind: FitKind, inputs: &[u64]) -> u64

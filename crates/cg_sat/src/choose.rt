@@ -2,12 +2,13 @@
 
 ghost use Rattle.std.specs.Prelude.{◌≡◌, ℕ, ◌+◌, ◌<◌, ◌≤◌, true, false, List, length, Some, MatchOption, IfOk, slice_index_or};
 ghost use Rattle.std.specs.List.{slice_get, list_any};
+ghost use Rattle.std.specs.Option.{IfSome};
 ghost use Rattle.cg_formula.specs.declared.formula.Lit.{Lit};
 ghost use Rattle.cg_formula.specs.declared.formula.Clause.{Clause};
 ghost use Rattle.cg_formula.specs.Bounds.{IsFormula};
 ghost use Rattle.cg_formula.specs.Lits.{inverse, is_in};
 ghost use Rattle.cg_formula.specs.Satisfiable.{lit_bit, clause_bit, formula_bit};
-ghost use Rattle.cg_formula.specs.Assignments.{IsFalsified};
+ghost use Rattle.cg_formula.specs.Assignments.{IsFalsified, IsUnassigned};
 ghost use Rattle.cg_sat_state.specs.Trail.{lits_of};
 ghost use Rattle.cg_sat.specs.inner.Search.{IsSearch, ShowsBits, FindsOpen, HasPrefix, IsUnsatisfied, IsChoice};
 
@@ -115,6 +116,24 @@ fn last_choice(
     }
 }
 
+/// The literal that the most active variable without a value is decided by.
+fn proposed(trail: &Trail, guide: &mut Guide, count: usize) -> Option<Lit>
+    ensures { IfSome result (λ lit. IsUnassigned (lits_of trail.now) lit × (lit.variable < count) × (0 < lit.variable)) }
+{
+    for _ in 0..count {
+        let variable = guide.order.take()?;
+        let lit = guide.order.lit(variable);
+        if lit.variable > 0
+            && (lit.variable as usize) < count
+            && !trail.has(lit)
+            && !trail.has(lit.inverse())
+        {
+            return Some(lit);
+        }
+    }
+    None
+}
+
 /// What is done where nothing follows.
 pub fn choose(
     problem: &Problem<'_>,
@@ -127,17 +146,10 @@ pub fn choose(
     requires search { IsSearch problem.now.count clauses.now trail.now }
     ensures { IfOk result (IsChoice problem.now.formula.now problem.now.count clauses.now trail.now) }
 {
-    let count = problem.count;
-    for _ in 0..count {
-        let Some(variable) = guide.order.take() else {
-            break;
-        };
-        let lit = guide.order.lit(variable);
-        if lit.variable > 0
-            && (lit.variable as usize) < count
-            && !trail.has(lit)
-            && !trail.has(lit.inverse())
-        {
+    // Where each variable has a value, none is looked for.
+    if trail.len() < problem.formula.variables as usize {
+        guide.order.begin(problem.formula)?;
+        if let Some(lit) = proposed(trail, guide, problem.count) {
             return Ok(Choice::Decide(lit));
         }
     }

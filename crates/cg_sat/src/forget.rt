@@ -19,8 +19,9 @@ fn reasons(alloc: Global, trail: &[Entry], places: usize) -> Result<Vec<bool>, A
     let mut used = vec![in alloc; false; places]?;
     for entry in trail {
         if let Some(reason) = entry.reason {
-            if reason < used.len() {
-                used[reason] = true;
+            let place = reason as usize;
+            if place < used.len() {
+                used[place] = true;
             }
         }
     }
@@ -71,9 +72,7 @@ pub fn forget(
     ensures search { OnOk result (IsSearch problem.now.count draft.new.clauses trail.now) }
 {
     let used = reasons(problem.alloc, trail, draft.clauses().len())?;
-    let found = guide
-        .merits
-        .lower_half(draft.clauses(), problem.formula.clauses.len())?;
+    let found = guide.merits.lower_half(draft.clauses())?;
     'found: for (_, place) in found.as_slice() {
         delete_learnt(problem, draft, trail, used.as_slice(), *place)?;
         if draft.clauses().get(*place).is_none() {

@@ -6,7 +6,7 @@
 use crate::merits::Merits;
 use crate::order::Order;
 use crate::watches::Watches;
-use cg_formula::Lit;
+use cg_formula::{Formula, Lit};
 use std::alloc::{AllocError, Global};
 
 /// No clause.
@@ -45,27 +45,25 @@ impl Guide {
         }
     }
 
-    /// For a formula of so many variables. The buffers stay.
-    pub fn reset(&mut self, variables: u32) -> Result<(), AllocError> {
-        self.watches.reset(variables)?;
-        self.order.reset(variables)?;
-        self.merits.reset();
+    /// For a formula. The buffers stay, and grow again only as far as they are used.
+    pub fn reset(&mut self, formula: &Formula) {
+        self.watches.reset(formula.variables);
+        self.order.reset();
+        self.merits.reset(formula.clauses.len());
         self.taken = 0;
         self.fixed = 0;
         self.unsettled = true;
         self.units.clear();
-        for _ in 0..variables as usize + 1 {
-            self.units.push(NOWHERE)?;
-        }
-        Ok(())
     }
 
     /// The clause at this place is a unit clause of the literal's variable.
-    pub fn set_unit(&mut self, lit: Lit, place: usize) {
+    pub fn set_unit(&mut self, lit: Lit, place: usize) -> Result<(), AllocError> {
         let index = lit.variable as usize;
-        if index < self.units.len() {
-            self.units[index] = place;
+        if index >= self.units.len() {
+            self.units.resize(index + 1, NOWHERE)?;
         }
+        self.units[index] = place;
+        Ok(())
     }
 
     /// The place of a unit clause of the literal's variable, if one is known.
@@ -81,21 +79,13 @@ impl Guide {
         self.unit(lit) != NOWHERE
     }
 
-    /// The next clause is watched at these two of its literals.
-    pub fn watch(&mut self, lits: &[Lit], first: Lit, second: Lit) -> Result<(), AllocError> {
+    /// The clause at this place was learnt. It is watched at its first two literals, or is a unit clause.
+    pub fn enter(&mut self, place: usize, lits: &[Lit]) -> Result<(), AllocError> {
         self.merits.push()?;
-        self.watches.add(lits, first, second)
-    }
-
-    /// The next clause is not watched.
-    pub fn pass(&mut self) -> Result<(), AllocError> {
-        self.merits.push()?;
-        self.watches.pass()
-    }
-
-    /// The next clause is a unit clause.
-    pub fn pass_unit(&mut self, lit: Lit, place: usize) -> Result<(), AllocError> {
-        self.set_unit(lit, place);
-        self.pass()
+        match lits {
+            [] => Ok(()),
+            [only] => self.set_unit(*only, place),
+            [first, second, ..] => self.watches.add(place, lits, *first, *second),
+        }
     }
 }

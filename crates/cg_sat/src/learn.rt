@@ -68,8 +68,8 @@ impl Work {
     pub fn fit(&mut self, count: usize) -> Result<(), AllocError>
         ensures { OnOk result (count ≤ length self.new.marks.items) }
     {
-        'more: while self.marks.len() < count {
-            self.marks.push(false)?;
+        if self.marks.len() < count {
+            self.marks.resize(count, false)?;
         }
         Ok(())
     }
@@ -204,8 +204,14 @@ fn settle(
     match entry.reason {
         Some(reason)
             if at < guide.fixed
-                || is_redundant(work.marks.as_slice(), guide, clauses, reason, entry.lit) => {
-            resolve(work, guide, clauses, trail, at, reason)?;
+                || is_redundant(
+                    work.marks.as_slice(),
+                    guide,
+                    clauses,
+                    reason as usize,
+                    entry.lit,
+                ) => {
+            resolve(work, guide, clauses, trail, at, reason as usize)?;
             Ok(false)
         }
         _ => {
@@ -295,7 +301,7 @@ fn resolve_at(
     let Some(reason) = entry.reason else {
         unreachable!();
     };
-    resolve(work, guide, clauses, trail, at, reason)
+    resolve(work, guide, clauses, trail, at, reason as usize)
 }
 
 /// Whether an entry is needed, and nothing else of its level, which begins at this place.
@@ -408,6 +414,7 @@ pub fn learn(
         return Ok(Lesson::Empty(take_hints(alloc, work)));
     };
     let Some(from) = level_of(trail, top) else {
+        guide.order.end();
         refute(work, guide, clauses, trail, top)?;
         return Ok(Lesson::Empty(take_hints(alloc, work)));
     };

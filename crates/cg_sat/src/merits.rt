@@ -16,11 +16,13 @@ const PERIOD: u64 = 100;
 
 const LONGER: u64 = 50;
 
-/// The merits of clauses: each use adds to one, and later uses add more.
+/// The merits of learnt clauses: each use adds to one, and later uses add more.
 #[derive(Drop)]
 pub struct Merits {
     alloc: Global,
     merits: Vec<u64>,
+    // How many clauses stand before the first learnt one.
+    given: usize,
     step: u64,
     // How many conflicts are left until clauses are deleted, and how many there are between two deletions.
     left: u64,
@@ -33,21 +35,23 @@ impl Merits {
         Merits {
             alloc,
             merits: Vec::new(alloc),
+            given: 0,
             step: FIRST,
             left: PERIOD,
             period: PERIOD,
         }
     }
 
-    /// No clause any more.
-    pub fn reset(&mut self) {
+    /// No clause any more, for a formula of so many clauses.
+    pub fn reset(&mut self, given: usize) {
         self.merits.clear();
+        self.given = given;
         self.step = FIRST;
         self.left = PERIOD;
         self.period = PERIOD;
     }
 
-    /// One more clause.
+    /// One more learnt clause.
     pub fn push(&mut self) -> Result<(), AllocError> {
         self.merits.push(self.step)?;
         Ok(())
@@ -55,8 +59,12 @@ impl Merits {
 
     /// The clause at a place took part in a conflict.
     pub fn bump(&mut self, place: usize) {
-        if place < self.merits.len() {
-            self.merits[place] = self.merits[place].saturating_add(self.step);
+        if place < self.given {
+            return;
+        }
+        let at = place - self.given;
+        if at < self.merits.len() {
+            self.merits[at] = self.merits[at].saturating_add(self.step);
         }
     }
 
@@ -82,14 +90,11 @@ impl Merits {
         true
     }
 
-    /// The half of the clauses from a place on that has the lower merits. Clauses of two or three literals are not among them.
-    pub fn lower_half(
-        &self,
-        clauses: &Clauses,
-        from: usize,
-    ) -> Result<Vec<(u64, usize)>, AllocError> {
+    /// The half of the learnt clauses that has the lower merits. Clauses of two or three literals are not among them.
+    pub fn lower_half(&self, clauses: &Clauses) -> Result<Vec<(u64, usize)>, AllocError> {
         let mut found = Vec::new(self.alloc);
-        for (place, merit) in self.merits.iter().enumerate().skip(from) {
+        for (at, merit) in self.merits.iter().enumerate() {
+            let place = self.given.saturating_add(at);
             if clauses.get(place).is_some_and(|lits| lits.len() > 3) {
                 found.push((*merit, place))?;
             }

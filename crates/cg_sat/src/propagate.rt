@@ -27,7 +27,7 @@ pub enum Look {
     Conflict(usize),
 }
 
-/// A literal becomes true by a clause.
+/// A literal becomes true by a clause. Its place is to be less than 2^32: for more, memory is wanting.
 pub fn imply(
     trail: &mut Trail,
     clauses: &Clauses,
@@ -42,9 +42,12 @@ pub fn imply(
 {
     let _ = clauses;
     let _ = count;
+    if reason > u32::MAX as usize {
+        return Err(AllocError);
+    }
     trail.push(Entry {
         lit,
-        reason: Some(reason),
+        reason: Some(reason as u32),
     })?;
     Ok(())
 }

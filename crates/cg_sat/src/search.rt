@@ -80,20 +80,17 @@ fn turn_back(
     let _ = count;
     let Learnt { lits, hints, cut } = learnt;
     let first = lits[0];
-    let second = if lits.len() > 1 { lits[1] } else { first };
-    let is_unit = lits.len() == 1;
     let place = draft.clauses().len();
-    if is_unit {
-        guide.unsettled = true;
-        guide.pass_unit(first, place)?;
-    } else {
-        guide.watch(lits.as_slice(), first, second)?;
+    guide.unsettled |= lits.len() == 1;
+    if place > u32::MAX as usize {
+        return Err(AllocError);
     }
+    guide.enter(place, lits.as_slice())?;
     draft.add(lits, hints)?;
     cut_to(trail, &mut guide.order, cut)?;
     trail.push(Entry {
         lit: first,
-        reason: Some(place),
+        reason: Some(place as u32),
     })?;
     guide.order.decay();
     guide.merits.decay();
@@ -121,17 +118,16 @@ fn begin_at(
         return Ok(true);
     };
     match scan(trail, clause, first) {
-        Found::Another(second) => guide.watch(clause, first, second)?,
+        Found::Another(second) => guide.watches.add(place, clause, first, second)?,
         Found::One => {
             if clause.len() == 1 {
-                guide.set_unit(first, place);
+                guide.set_unit(first, place)?;
             }
-            guide.pass()?;
             if !trail.has(first) && !trail.has(first.inverse()) {
                 imply(trail, clauses, first, place, count)?;
             }
         }
-        Found::Nothing => guide.pass()?,
+        Found::Nothing => {}
     }
     Ok(false)
 }
@@ -299,7 +295,7 @@ impl Solver {
         let mut draft = LogDraft::new(alloc, formula, buffer)?;
         self.trail.clear();
         self.work.fit(count)?;
-        self.guide.reset(formula.variables)?;
+        self.guide.reset(formula);
         let problem = Problem {
             alloc,
             formula,

@@ -75,8 +75,10 @@ fn end_list(lists: &mut [Short], from: usize) -> u32 {
 /// The lists, by literal, all in one.
 #[derive(Drop)]
 pub struct Shorts {
-    // By literal, where its list begins.
+    // By literal, where its list begins. It is empty until there is a clause.
     heads: Vec<u32>,
+    // How many literals there are.
+    count: usize,
     shorts: Vec<Short>,
     // What the clauses are moved to.
     spare: Vec<Short>,
@@ -87,17 +89,17 @@ impl Shorts {
     pub fn new(alloc: Global) -> Self {
         Shorts {
             heads: Vec::new(alloc),
+            count: 0,
             shorts: Vec::new(alloc),
             spare: Vec::new(alloc),
         }
     }
 
     /// No clause of so many literals.
-    pub fn reset(&mut self, count: usize) -> Result<(), AllocError> {
+    pub fn reset(&mut self, count: usize) {
         self.shorts.clear();
         self.heads.clear();
-        self.heads.resize(count, NOWHERE)?;
-        Ok(())
+        self.count = count;
     }
 
     /// How many entries there are on all lists.
@@ -149,6 +151,9 @@ impl Shorts {
 
     fn put(&mut self, lit: u32, place: u32, first: u32, second: u32) -> Result<(), AllocError> {
         let at = self.shorts.len();
+        if at == 0 {
+            self.heads.resize(self.count, NOWHERE)?;
+        }
         let index = lit as usize;
         if index < self.heads.len() && at < NOWHERE as usize {
             let next = self.heads[index];

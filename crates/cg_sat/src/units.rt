@@ -120,13 +120,13 @@ fn add_unit(
     if lit.variable == 0 || lit.variable as usize >= problem.count || guide.has_unit(lit) {
         return Ok(());
     }
-    let Some(hints) = unit_hints(alloc, draft.clauses(), guide, trues, lit, reason)? else {
+    let Some(hints) = unit_hints(alloc, draft.clauses(), guide, trues, lit, reason as usize)? else {
         return Ok(());
     };
     let place = draft.clauses().len();
     let lits = Vec::from_slice(alloc, &[lit])?;
     draft.add(lits, hints)?;
-    guide.pass_unit(lit, place)?;
+    guide.enter(place, &[lit])?;
     Ok(())
 }
 

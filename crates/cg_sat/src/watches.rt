@@ -153,7 +153,7 @@ pub struct Watches {
     alloc: Global,
     lists: Vec<Vec<Watch>>,
     words: Vec<u32>,
-    // By place, where the copy of a clause stands.
+    // By place, where the copy of a clause stands, as far as clauses have one.
     copies: Vec<u32>,
     // How many words stand in copies of clauses that were deleted.
     dead: usize,
@@ -176,7 +176,7 @@ impl Watches {
     }
 
     /// No clause of a formula of so many variables is watched.
-    pub fn reset(&mut self, variables: u32) -> Result<(), AllocError> {
+    pub fn reset(&mut self, variables: u32) {
         self.words.clear();
         self.copies.clear();
         self.dead = 0;
@@ -185,7 +185,7 @@ impl Watches {
             list.clear();
         }
         self.count = count;
-        self.shorts.reset(count)
+        self.shorts.reset(count);
     }
 
     /// Makes room for the list of a literal.
@@ -196,23 +196,21 @@ impl Watches {
         Ok(())
     }
 
-    /// The next clause is not watched.
-    pub fn pass(&mut self) -> Result<(), AllocError> {
-        self.copies.push(NOWHERE)?;
-        Ok(())
-    }
-
-    /// The next clause is watched at these two of its literals.
-    pub fn add(&mut self, lits: &[Lit], first: Lit, second: Lit) -> Result<(), AllocError> {
-        let place = self.copies.len();
+    /// The clause at a place is watched at these two of its literals.
+    pub fn add(
+        &mut self,
+        place: usize,
+        lits: &[Lit],
+        first: Lit,
+        second: Lit,
+    ) -> Result<(), AllocError> {
         let from = self.words.len();
         let most = u32::MAX as usize;
         if place >= most || from >= most || lits.len() >= most {
-            return self.pass();
+            return Ok(());
         }
         let (first, second) = (code_of(first), code_of(second));
         if lits.len() <= 3 {
-            self.copies.push(NOWHERE)?;
             let third = third_of(lits, first, second);
             return self.shorts.add(place as u32, first, second, third);
         }
@@ -221,8 +219,18 @@ impl Watches {
             .extend_from_slice(&[place as u32, 0, 2, first, second])?;
         self.copy(lits, first, second)?;
         self.close_copy(from);
-        self.copies.push(from)?;
+        self.set_copy(place as u32, from)?;
         self.watch_at(from, first, second)
+    }
+
+    /// Writes down where the copy of a clause stands.
+    fn set_copy(&mut self, place: u32, from: u32) -> Result<(), AllocError> {
+        let place = place as usize;
+        if place >= self.copies.len() {
+            self.copies.resize(place + 1, NOWHERE)?;
+        }
+        self.copies[place] = from;
+        Ok(())
     }
 
     /// Copies the literals of a clause but these two.

@@ -1,16 +1,26 @@
 -- Clauses in one list of literals.
 use Rattle.std.proofs.Common.{◌≡◌, ◌≢◌, ℕ, ◌+◌, ◌-◌, zero, suc, ◌<◌, ◌≤◌, Bool, true, false, List, [], ◌∷◌, ◌++◌, Option, Some}
-use Rattle.std.proofs.Common.{None, refl, sym, ap, ◌∙◌, subst, length, take, drop, set, get_or, arith}
+use Rattle.std.proofs.Common.{None, refl, sym, ap, ◌∙◌, subst, length, take, drop, set, get_or, arith, nat_le}
 use Rattle.std.specs.Prelude.{Result, Ok, Err, OnErr}
 use Rattle.std.specs.List.{slice_range, AllByRecursion, slice_get}
 use Rattle.std.proofs.lemmas.Option.{slice_get-get_or}
 use Rattle.std.proofs.Math.Seq.{drop-append_seam, take-length}
 use Rattle.std.proofs.Math.ListN.{length-drop}
+use Rattle.std.proofs.lemmas.Bool.Decides.{nat_tests}
 use Rattle.std.proofs.lemmas.List.{take-append-le, drop-append-le, map-set}
 use Rattle.cg_formula.specs.declared.formula.Lit.{Lit}
 use Rattle.cg_sat_state.specs.declared.clauses.Span.{Span}
 use Rattle.cg_sat_state.specs.Store.{Store, clause_at, IsWithout}
 use Rattle.cg_sat_state.specs.inner.Arena.{held, store_of, IsWithin}
+
+pub in_order : (from to : ℕ) → nat_le from to ≡ true → from ≤ to
+in_order from to e = grind (arith, nat_tests)
+
+pub out_of_order : (from to : ℕ) → to < from → nat_le from to ≡ false
+out_of_order from to less = grind (arith, nat_tests)
+
+pub ordered : (from to : ℕ) → from ≤ to → nat_le from to ≡ true
+ordered from to le = grind (arith, nat_tests)
 
 range_longer : (lits more : List Lit) (from to : ℕ) → from ≤ to → to ≤ length lits → slice_range (lits ++ more) from to ≡ slice_range lits from to
 range_longer lits more from to ordered within =
@@ -23,9 +33,9 @@ range_last lits clause to e =
     ap (take (to - length lits)) (drop-append_seam lits clause) ∙ ap (λ n. take n clause) long ∙ take-length clause
 
 held_longer : (lits more : List Lit) (span : Span) → IsWithin (length lits) span → held (lits ++ more) span ≡ held lits span
-held_longer lits more span within = pick span.live refl where
-  pick : (b : Bool) → span.live ≡ b → held (lits ++ more) span ≡ held lits span
-  pick true e = rw e (ap Some (range_longer lits more span.from span.to within.ordered within.within))
+held_longer lits more span within = pick (nat_le span.from span.to) refl where
+  pick : (b : Bool) → nat_le span.from span.to ≡ b → held (lits ++ more) span ≡ held lits span
+  pick true e = rw e (ap Some (range_longer lits more span.from span.to (in_order span.from span.to e) within.within))
   pick false e = rw e refl
 
 pub store_longer : (lits more : List Lit) (spans : List Span) → AllByRecursion (IsWithin (length lits)) spans → store_of (lits ++ more) spans ≡ store_of lits spans
@@ -34,7 +44,7 @@ store_longer lits more (s ∷ ss) all = rw (held_longer lits more s all.0, store
 
 pub within_longer : (m n : ℕ) (spans : List Span) → m ≤ n → AllByRecursion (IsWithin m) spans → AllByRecursion (IsWithin n) spans
 within_longer m n [] le all = tt
-within_longer m n (s ∷ ss) le all = (record { ordered = all.0.ordered; within = let high = all.0.within in omega arith }, within_longer m n ss le all.1)
+within_longer m n (s ∷ ss) le all = (record { within = let high = all.0.within in omega arith }, within_longer m n ss le all.1)
 
 pub within_pushed : (n : ℕ) (spans : List Span) (span : Span) → AllByRecursion (IsWithin n) spans → IsWithin n span → AllByRecursion (IsWithin n) (spans ++ span ∷ [])
 within_pushed n [] span all p = (p, tt)
@@ -91,7 +101,7 @@ long_set (d ∷ ds) (suc place) c = ap suc (long_set ds place c)
 pub store_same : (lits : List Lit) (spans : List Span) (place : ℕ) → length spans ≤ place → IsWithout (store_of lits spans) place (store_of lits spans)
 store_same lits spans place past = record { others = λ k other. refl; gone = store_past lits spans place past; long = refl }
 
-pub store_without : (lits : List Lit) (spans : List Span) (place : ℕ) (span : Span) → span.live ≡ false → IsWithout (store_of lits spans) place (store_of lits (set spans place span))
+pub store_without : (lits : List Lit) (spans : List Span) (place : ℕ) (span : Span) → nat_le span.from span.to ≡ false → IsWithout (store_of lits spans) place (store_of lits (set spans place span))
 store_without lits spans place span off =
     let none : held lits span ≡ None = rw off refl in
     let whole : store_of lits (set spans place span) ≡ set (store_of lits spans) place None = map-set (held lits) spans place span ∙ ap (set (store_of lits spans) place) none in

@@ -1,6 +1,7 @@
 //! The clauses that a search works with.
 
-ghost use Rattle.std.specs.Prelude.{◌≡◌, ◌+◌, ◌<◌, ◌^◌, Some, None, true, [], ◌∷◌, ◌++◌, length, take, MatchOption, IfOk, OnOk, OnErr};
+ghost use Rattle.std.specs.Prelude.{◌≡◌, ◌+◌, ◌<◌, ◌^◌, List, Some, None, true, [], ◌∷◌, ◌++◌, length, take, MatchOption, IfOk, OnOk, OnErr};
+ghost use Rattle.cg_formula.specs.declared.formula.Lit.{Lit};
 ghost use Rattle.cg_sat_state.specs.Store.{clause_at, IsWithout};
 
 use cg_formula::Lit;
@@ -13,9 +14,10 @@ use std::marker::Model;
 struct Span {
     from: u32,
     to: u32,
-    // Whether the clause was not taken away.
-    live: bool,
 }
+
+/// The span of a clause that was taken away: it ends before it begins.
+const GONE: Span = Span { from: 1, to: 0 };
 
 /// Clauses by place, their literals one behind the other in one buffer that is kept when they are cleared.
 ///
@@ -76,7 +78,7 @@ impl Clauses {
             return None;
         }
         let span = self.spans[place];
-        if !span.live {
+        if span.to < span.from {
             return None;
         }
         Some(&self.lits.as_slice()[span.from as usize..span.to as usize])
@@ -88,7 +90,7 @@ impl Clauses {
         ensures same { OnErr result (self.new ≡ self.old) }
     {
         let span = span_behind(self.lits.len(), lits.len())?;
-        self.lits.extend_from_slice(lits)?;
+        append(&mut self.lits, lits)?;
         self.spans.push(span)?;
         Ok(())
     }
@@ -105,7 +107,7 @@ impl Clauses {
         ensures { IsWithout self.old place self.new }
     {
         if place < self.spans.len() {
-            self.spans[place].live = false;
+            self.spans[place] = GONE;
         }
     }
 
@@ -118,9 +120,21 @@ impl Clauses {
     }
 }
 
+/// Puts literals behind others, one by one: most clauses have so few that a copy of them as one block takes longer. Where memory
+/// is wanting some of them may stand there.
+fn append(lits: &mut Vec<Lit>, more: &[Lit]) -> Result<(), AllocError>
+    ensures added { OnOk result (lits.new.items ≡ lits.old.items ++ more.now) }
+    ensures some { OnErr result ((front : List Lit) × (lits.new.items ≡ lits.old.items ++ front)) }
+{
+    for lit in more {
+        lits.push(*lit)?;
+    }
+    Ok(())
+}
+
 /// The span of a clause of so many literals, put behind so many others.
 fn span_behind(others: usize, count: usize) -> Result<Span, AllocError>
-    ensures { IfOk result (λ span. span ≡ record { from = others; to = others + count; live = true }) }
+    ensures { IfOk result (λ span. span ≡ record { from = others; to = others + count }) }
 {
     let most = u32::MAX as usize;
     if others > most || count > most - others {
@@ -129,6 +143,5 @@ fn span_behind(others: usize, count: usize) -> Result<Span, AllocError>
     Ok(Span {
         from: others as u32,
         to: (others + count) as u32,
-        live: true,
     })
 }

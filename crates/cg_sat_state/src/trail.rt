@@ -15,8 +15,8 @@ use std::marker::Model;
 pub struct Entry {
     /// The literal.
     pub lit: Lit,
-    /// The place of the clause that was unit, or none where it was decided.
-    pub reason: Option<usize>,
+    /// The place of the clause that was unit, or none where it was decided. It has 32 bits, so that an entry takes 16 bytes.
+    pub reason: Option<u32>,
 }
 
 /// The literals that are true, and a table of them by number, so that it is known at once whether one is. Contracts see

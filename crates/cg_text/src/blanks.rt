@@ -3,11 +3,12 @@
 ghost use Rattle.std.specs.Prelude.{◌≡◌};
 ghost use Rattle.cg_text.specs.Blanks.{is_blank, is_white_space, separates};
 
-/// Whether a byte is white space: a space, a tab, a line feed, a vertical tab, a form feed or a carriage return.
+/// Whether a byte is white space: a space, a tab, a line feed, a vertical tab, a form feed or a carriage return. Most bytes are above
+/// a space, and tell so at once.
 pub fn is_white_space(byte: u8) -> bool
     ensures { result ≡ is_white_space byte }
 {
-    byte == b' ' || (9 <= byte && byte <= 13)
+    byte <= b' ' && (byte == b' ' || (9 <= byte && byte <= 13))
 }
 
 /// The bytes that stand between words.

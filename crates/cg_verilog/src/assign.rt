@@ -14,7 +14,7 @@ ghost use Rattle.cg_verilog_text.specs.Meaning.{cover_part, form_cell, once};
 ghost use Rattle.cg_verilog_text.specs.Telling.{with_parts};
 ghost use Rattle.cg_verilog.specs.Hearing.{Hears, HearsItem, heard};
 
-use crate::cover::{inputs_of, rows_of};
+use crate::cover::{CoverMaker, inputs_of, rows_of};
 use crate::inputs::{InputNames, Inputs};
 use crate::refusal::{Refusal, heard};
 use cg_cell::cover::Cover;
@@ -27,10 +27,10 @@ use cg_verilog_items::net::Net;
 use cg_verilog_text::fault::ItemFault;
 use std::alloc::{AllocError, Global};
 
-/// Tells a builder that a net is a form. Rows are made in `row`, whatever it held.
+/// Tells a builder that a net is a form.
 pub fn assign(
     alloc: Global,
-    row: &mut Vec<Option<bool>>,
+    maker: &mut CoverMaker,
     builder: &mut Builder,
     output: &Net<'_>,
     form: Form<'_>,
@@ -44,7 +44,8 @@ pub fn assign(
     if inputs.len() > MOST_COVER_INPUTS {
         return Err(Refusal::Item(ItemFault::Limit(Limit::CoverInputs)));
     }
-    let cover = Cover::new(rows_of(alloc, row, &inputs, terms.as_slice())?, on);
+    let rows = rows_of(alloc, &mut maker.row, &inputs, terms.as_slice())?;
+    let cover = maker.covers.cover(rows, on)?;
     heard(tell_cover(alloc, builder, &inputs, output, cover))
 }
 

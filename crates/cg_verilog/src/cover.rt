@@ -11,6 +11,7 @@ ghost use Rattle.cg_verilog.specs.declared.cover.TheConstants.{FEW};
 
 use crate::inputs::{INLINE, Inputs, put};
 use cg_cell::rows::CoverRows;
+use cg_cell::shared_covers::SharedCovers;
 use cg_list::Seq;
 use cg_net::names::NetNames;
 use cg_verilog_items::term::Literal;
@@ -19,6 +20,26 @@ use std::alloc::{AllocError, Global};
 
 /// How many terms a form of a few has at most, and how many literals each.
 const FEW: usize = 4;
+
+/// What covers are made with: where their rows are made, one after another, and the covers that cells share.
+#[derive(Drop)]
+pub struct CoverMaker {
+    /// Where a row is made. What is in it is put there by whoever takes it.
+    pub row: Vec<Option<bool>>,
+
+    /// The shared covers.
+    pub covers: SharedCovers,
+}
+
+impl CoverMaker {
+    /// Made no cover yet; takes no memory.
+    pub fn new(alloc: Global) -> CoverMaker {
+        CoverMaker {
+            row: Vec::new(alloc),
+            covers: SharedCovers::new(alloc),
+        }
+    }
+}
 
 /// The nets of terms, each once, where it stands first.
 pub fn inputs_of<'b>(alloc: Global, terms: &'b [Seq<Literal<'_>>]) -> Result<Inputs<'b>, AllocError>

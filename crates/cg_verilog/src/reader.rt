@@ -165,7 +165,7 @@ fn built(telling: Telling) -> Result<Builder, VerilogFault>
         first,
         inits,
         updated: _,
-        row: _,
+        maker: _,
     } = telling;
     if let Some(fault) = first {
         return Err(at(fault));

@@ -16,6 +16,7 @@ ghost use Rattle.cg_verilog.specs.Summary.{empty, put, put_result};
 ghost use Rattle.cg_verilog.specs.Tellings.{Becomes, IsAnswered, IsSound, is_limit, noted, placed_alone, summed, with_fault};
 
 use crate::assign::{assign, is_too_wide};
+use crate::cover::CoverMaker;
 use crate::declare::{Side, declare};
 use crate::fault::{Fault, sooner};
 use crate::inits::GivenInits;
@@ -56,8 +57,8 @@ pub struct Telling {
     /// The nets of plain registers.
     pub updated: NetNames,
 
-    /// Where the rows of forms are made, one after another: it is kept for its memory alone.
-    pub row: Vec<Option<bool>>,
+    /// What the covers of forms are made with: it is kept for its memory alone.
+    pub maker: CoverMaker,
 }
 
 impl Telling {
@@ -72,7 +73,7 @@ impl Telling {
             first: None,
             inits: GivenInits::new(alloc),
             updated: NetNames::new(alloc),
-            row: Vec::new(alloc),
+            maker: CoverMaker::new(alloc),
         })
     }
 
@@ -144,7 +145,7 @@ impl Telling {
             }
             return Ok(());
         }
-        let answer = assign(alloc, &mut self.row, &mut self.builder, net, form);
+        let answer = assign(alloc, &mut self.maker, &mut self.builder, net, form);
         self.note(line, answer)
     }
 

@@ -1,7 +1,7 @@
 -- Cycles of a machine.
 use Rattle.std.specs.Prelude.{◌≡◌, ◌<◌, ℕ, Bool, List, length}
 use Rattle.cg_hold.specs.inner.Laying.{AreMoves}
-use Rattle.cg_hold.specs.inner.Words.{LANES, lane}
+use Rattle.cg_word.specs.Words.{LANES, lane}
 use Rattle.cg_machine.specs.Machine.{IsInputs, MachineData, values}
 use Rattle.cg_hold.specs.declared.cycles.CycleWords.{CycleWords}
 

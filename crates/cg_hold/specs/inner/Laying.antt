@@ -2,7 +2,7 @@
 use Rattle.std.specs.Prelude.{◌≡◌, ◌<◌, ℕ, List, length, slice_get, slice_index_or, Some}
 use Rattle.cg_cell.specs.Gates.{exclusive_or}
 use Rattle.cg_claim.specs.Build.{given}
-use Rattle.cg_hold.specs.inner.Words.{IsWord, LANES, lane, word_not}
+use Rattle.cg_word.specs.Words.{IsWord, LANES, lane, word_not}
 use Rattle.cg_machine.specs.Machine.{MachineData, next}
 use Rattle.cg_netlist.specs.Circuit.{LogicCell}
 use Rattle.cg_netlist.specs.Moment.{bit}

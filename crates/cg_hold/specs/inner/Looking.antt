@@ -5,7 +5,7 @@ use Rattle.cg_claim.specs.LeafBits.{is_never}
 use Rattle.cg_claim.specs.Question.{hold_question}
 use Rattle.cg_claim_reach.specs.Reached.{IsConeOf}
 use Rattle.cg_hold.specs.inner.Choosing.{IsLiteralOf}
-use Rattle.cg_hold.specs.inner.Words.{IsWord, LANES, lane}
+use Rattle.cg_word.specs.Words.{IsWord, LANES, lane}
 use Rattle.cg_machine.specs.Claims.{Literal}
 use Rattle.cg_machine.specs.Machine.{IsInputs, MachineData, enable_of, next, values}
 use Rattle.cg_net.specs.NetSets.{is_in}

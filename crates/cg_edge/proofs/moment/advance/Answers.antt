@@ -8,6 +8,7 @@ use Rattle.cg_netlist.proofs.Values.{same_values}
 use Rattle.cg_edge.specs.inner.Keeping.{AreMarked, SameBut, ShowClocks, present_of, walk_of}
 use Rattle.cg_edge.proofs.Facts.{register_clocked}
 use Rattle.cg_edge.proofs.Follows.{Parts, before_latches, before_rose, before_state, clock_bit, follows, register_no_clock}
+use Rattle.cg_edge.proofs.Low.{kept_rose, kept_state}
 use Rattle.cg_edge.proofs.Marked.{marked_all, marked_clocks}
 use Rattle.cg_edge.proofs.Walk.{walk_long}
 use Rattle.cg_edge.proofs.moment.advance.Goals as goal
@@ -50,7 +51,7 @@ returns-clause-follows c start first =
     } in
     let was : List Bool = c.as_mut_slice-state.result.now in
     let moved : state ≡ (if c.args.ticked then zip_with (next_bit old n1) n.registers bits.state.items else bits.state.items) =
-    c.move_registers.ensures.state ∙ (ap (λ b. if c.args.ticked then zip_with (next_bit b n1) n.registers was else was) (c.copy_from_slice.ensures.after ∙ c.as_mut_slice-nets.ensures.value)
+    c.move_registers.ensures.state ∙ (ap (λ s. if c.args.ticked then s else was) (kept_state n good c.args.clock bits.latches.items n1 c.keep.new.before old was parts.clocks (λ high. c.keep.ensures.kept high ∙ c.as_mut_slice-nets.ensures.value))
     ∙ ap (λ s. if c.args.ticked then zip_with (next_bit old n1) n.registers s else s) c.as_mut_slice-state.ensures.value) in
     let nets : (with_items bits.nets n4).items ≡ n4 = with_items_is bits.nets n4 (c.settle.auto.nets ∙ (c.put_inputs.auto.nets ∙ (c.move_registers.auto.nets ∙ (c.drive.auto.nets ∙ c.as_mut_slice-nets.ensures.len)))) in
     let states : (with_items bits.state state).items ≡ state = with_items_is bits.state state (c.move_registers.auto.state ∙ c.as_mut_slice-state.ensures.len) in
@@ -92,7 +93,7 @@ returns-clause-rose c =
     (λ none. (c.requires.fresh none).rose)
     (λ k r at. sym (clock_bit n good (record { clock = c.args.clock; inputs = c.args.inputs.now }) state bits.latches.items old n1 c.move_registers.new.nets c.put_inputs.new.nets n4 c.requires.bits.latches parts r.clock (register_clocked n good k r at))
     ∙ ap (λ b. bit b r.clock) (sym nets))
-    (c.move_registers.ensures.rose ∙ (ap (λ b. if c.args.ticked then map (rises b n1) n.registers else was) (c.copy_from_slice.ensures.after ∙ c.as_mut_slice-nets.ensures.value)
+    (c.move_registers.ensures.rose ∙ (ap (λ r. if c.args.ticked then r else was) (kept_rose n good c.args.clock bits.latches.items n1 c.keep.new.before old parts.clocks (λ high. c.keep.ensures.kept high ∙ c.as_mut_slice-nets.ensures.value))
     ∙ ap (λ r. if c.args.ticked then map (rises old n1) n.registers else r) c.deref_mut.ensures.value))
 
 pub returns-clause-marked : goal.returns-clause-marked

@@ -7,8 +7,8 @@ use Rattle.cg_netlist.specs.History.{next_value}
 use Rattle.cg_netlist.specs.Moment.{values_at}
 use Rattle.cg_netlist.specs.View.{kind_seen, register_seen}
 use Rattle.cg_netlist.proofs.RegisterNext.{flop_inputs, flop_kind, one_input, plain_next, register_inputs_within}
-use Rattle.cg_hold.proofs.Lanes.{lane_or}
-use Rattle.cg_hold.specs.inner.Words.{lane, lane_bit}
+use Rattle.cg_word.proofs.Lanes.{lane_or}
+use Rattle.cg_word.specs.Words.{lane, lane_bit}
 use Rattle.cg_hold.proofs.moves.data_word.Goals as goal
 
 pub bounds-nets-number : goal.bounds-nets-number

@@ -2,7 +2,7 @@ use Rattle.std.proofs.Common.{◌<◌, ap, arith, length}
 use Rattle.std.proofs.lemmas.List.Sums.{count_by-le-length}
 use Rattle.cg_cell.specs.Pins.{is_data}
 use Rattle.cg_netlist.specs.Moment.{cell_value}
-use Rattle.cg_hold.proofs.Lanes.{is_word, own_behind}
+use Rattle.cg_word.proofs.Lanes.{is_word, own_behind}
 use Rattle.cg_hold.proofs.moves.flop_word.Goals as goal
 
 pub returns : goal.returns

@@ -5,7 +5,7 @@ use Rattle.cg_netlist.proofs.Values.{element_at}
 use Rattle.cg_netlist.specs.Circuit.{RegisterCell}
 use Rattle.cg_claim_reach.proofs.OwnRegisters.{machine_register}
 use Rattle.cg_hold.proofs.MovedInWords.{delay_word, enabled_word, free_word, net_below}
-use Rattle.cg_hold.specs.inner.Words.{IsWord, lane, lane_bit}
+use Rattle.cg_word.specs.Words.{IsWord, lane, lane_bit}
 use Rattle.cg_hold.proofs.moves.next_word.Goals as goal
 
 pub bounds-nets-number : goal.bounds-nets-number

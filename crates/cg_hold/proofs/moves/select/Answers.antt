@@ -1,6 +1,6 @@
 use Rattle.std.proofs.Common.{if◌then◌else◌, sym, subst, bit_and, bit_or}
-use Rattle.cg_hold.proofs.Lanes.{selected}
-use Rattle.cg_hold.specs.inner.Words.{IsWord, lane_bit}
+use Rattle.cg_word.proofs.Lanes.{selected}
+use Rattle.cg_word.specs.Words.{IsWord, lane_bit}
 use Rattle.cg_hold.proofs.moves.select.Goals as goal
 
 pub returns : goal.returns

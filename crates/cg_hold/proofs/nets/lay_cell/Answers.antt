@@ -6,7 +6,7 @@ use Rattle.cg_netlist.proofs.Values.{element_at}
 use Rattle.cg_netlist.specs.Moment.{function_value, values_at}
 use Rattle.cg_hold.proofs.Layings.{lays_one}
 use Rattle.cg_hold.specs.inner.Laying.{Lays}
-use Rattle.cg_hold.specs.inner.Words.{IsWord, lane}
+use Rattle.cg_word.specs.Words.{IsWord, lane}
 use Rattle.cg_hold.proofs.nets.lay_cell.Goals as goal
 
 pub gather-requires-clause-nets : goal.gather-requires-clause-nets

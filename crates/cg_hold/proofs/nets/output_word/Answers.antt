@@ -8,7 +8,7 @@ use Rattle.cg_netlist.specs.Circuit.{LogicCell}
 use Rattle.cg_netlist.specs.Moment.{function_value}
 use Rattle.cg_netlist.specs.View.{cell_seen}
 use Rattle.cg_unroll.proofs.Cells.{read_gate, read_own}
-use Rattle.cg_hold.specs.inner.Words.{IsWord, lane}
+use Rattle.cg_word.specs.Words.{IsWord, lane}
 use Rattle.cg_hold.proofs.nets.output_word.Goals as goal
 
 pub gate_word-requires : goal.gate_word-requires

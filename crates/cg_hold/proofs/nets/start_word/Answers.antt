@@ -3,7 +3,7 @@ use Rattle.cg_claim.proofs.DriversTell.{driver_tells}
 use Rattle.cg_machine.specs.Machine.{MachineData}
 use Rattle.cg_netlist.specs.Drivers.{IsDriver}
 use Rattle.cg_netlist.specs.declared.driver.Driver.TheVariants.{Cell, Clock, Gater, Register}
-use Rattle.cg_hold.specs.inner.Words.{word_not}
+use Rattle.cg_word.specs.Words.{word_not}
 use Rattle.cg_hold.proofs.nets.start_word.Goals as goal
 
 pub returns-then-inverted : goal.returns-then-inverted

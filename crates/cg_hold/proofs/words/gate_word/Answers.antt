@@ -3,7 +3,7 @@ use Rattle.cg_cell.specs.Cover.{cover_value}
 use Rattle.cg_cell.specs.declared.fit.FitKind.{FitKind}
 use Rattle.cg_machine.specs.Gates.{HasInputs, gate_cover, inverter_cover}
 use Rattle.cg_hold.proofs.GateWords.{and_word, inverter_word, or_word}
-use Rattle.cg_hold.specs.inner.Words.{IsWord, lane}
+use Rattle.cg_word.specs.Words.{IsWord, lane}
 use Rattle.cg_hold.proofs.words.gate_word.Goals as goal
 
 pub returns-in-Inv : goal.returns-in-Inv

@@ -16,7 +16,7 @@ use Rattle.cg_verilog.proofs.assign.assign.Goals as goal
 pub tell_cover-requires-clause-fits : goal.tell_cover-requires-clause-fits
 tell_cover-requires-clause-fits c =
     let inputs = c.in_ok-inputs.inputs in
-    let rows : c.new-cover.result.rows ≡ map (row_of bytes_eq inputs) c.as_slice-2.result.now = ap (λ (k : CoverData). k.rows) c.new-cover.ensures ∙ c.in_ok-rows_of.ensures in
+    let rows : c.in_ok-cover.cover.rows ≡ map (row_of bytes_eq inputs) c.as_slice-2.result.now = ap (λ (k : CoverData). k.rows) c.in_ok-cover.ensures ∙ c.in_ok-rows.ensures in
     subst (λ (rs : List (List (Option Bool))). AllByRecursion (λ row. length row ≡ length inputs) rs) (sym rows) (rows_fit inputs c.as_slice-2.result.now)
 
 pub returns : goal.returns
@@ -31,8 +31,8 @@ returns c =
     let narrow : nat_lt MOST_COVER_INPUTS (length inputs) ≡ false = grind (arith, nat_tests) in
     let named : inputs ≡ once bytes_eq (flat_map (λ (term : List (Literal NetName)). map (λ (l : Literal NetName). l.net) term) terms) =
     c.in_ok-inputs.ensures.names ∙ ap (λ (ts : List (List (Literal NetName))). once bytes_eq (flat_map (λ (term : List (Literal NetName)). map (λ (l : Literal NetName). l.net) term) ts)) c.as_slice.ensures in
-    let rows : c.in_ok-rows_of.field-0 ≡ map (row_of bytes_eq inputs) terms = c.in_ok-rows_of.ensures ∙ ap (map (row_of bytes_eq inputs)) c.as_slice-2.ensures in
-    let cover : c.new-cover.result ≡ cover_with inputs terms (on_of form) =
-    c.new-cover.ensures ∙ (ap (λ (rs : List (List (Option Bool))). cover_of rs c.on-on.result) rows ∙ ap (cover_with inputs terms) c.on-on.ensures) in
+    let rows : c.in_ok-rows.rows ≡ map (row_of bytes_eq inputs) terms = c.in_ok-rows.ensures ∙ ap (map (row_of bytes_eq inputs)) c.as_slice-2.ensures in
+    let cover : c.in_ok-cover.cover ≡ cover_with inputs terms (on_of form) =
+    c.in_ok-cover.ensures ∙ (ap (λ (rs : List (List (Option Bool))). cover_of rs c.on-on.result) rows ∙ ap (cover_with inputs terms) c.on-on.ensures) in
     subst (λ (r : Result (Unit {0}) Refusal). HearsItem old new (cover_part (form_cell bytes_eq output form)) r) (sym c.heard.ensures)
-    (assigned output form terms inputs c.in_ok-terms.ensures.terms named old new c.new-cover.result c.tell_cover.result narrow cover c.tell_cover.ensures)
+    (assigned output form terms inputs c.in_ok-terms.ensures.terms named old new c.in_ok-cover.cover c.tell_cover.result narrow cover c.tell_cover.ensures)

@@ -1,6 +1,6 @@
 use Rattle.std.proofs.Common.{List, length, not, ℕ, ap, subst, arith}
 use Rattle.cg_hold.proofs.Cycled.{nets_long}
-use Rattle.cg_hold.specs.inner.Words.{IsWord, lane}
+use Rattle.cg_word.specs.Words.{IsWord, lane}
 use Rattle.cg_machine.specs.Claims.{literal_bit}
 use Rattle.cg_netlist.specs.Moment.{bit}
 use Rattle.cg_hold.proofs.cycles.CycleWords.zeros.Goals as goal

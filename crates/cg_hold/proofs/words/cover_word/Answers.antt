@@ -1,6 +1,0 @@
-use Rattle.cg_cell.specs.Cover.{cover_value}
-use Rattle.cg_hold.proofs.Lanes.{evaluated}
-use Rattle.cg_hold.proofs.words.cover_word.Goals as goal
-
-pub returns : goal.returns
-returns c = evaluated c.in-Ok.word c.args.inputs.now (cover_value c.args.cover.now) _ _ c.in-Ok.ensures.built

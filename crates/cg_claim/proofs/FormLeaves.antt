@@ -4,16 +4,22 @@ use Rattle.std.proofs.Common.{◌≡◌, ℕ, zero, suc, ◌+◌, ◌<◌, ◌�
 use Rattle.std.proofs.Common.{length, nat_eq, slice_index_or, Option, None, Some, option_map, refl, sym, ◌∙◌, ap, subst, arith, ◌⊎◌, inl, inr}
 use Rattle.std.specs.List.{filter, flat_map, list_any, range_with_len}
 use Rattle.std.specs.Option.{option_map_or}
-use Rattle.std.proofs.lemmas.Bool.{and_parts, both_ways, eq-eqb, eqb-false, eqb-true, or_cases, or_left, or_right}
+use Rattle.std.proofs.lemmas.Bool.{and_parts, both_ways, eq-eqb, eqb-false, eqb-true, ltb-true, or_cases, or_left, or_right}
 use Rattle.std.proofs.lemmas.Option.{same_Some}
+use Rattle.cg_net.specs.NetSets.{is_in}
+use Rattle.cg_net.proofs.Members.{is_in_left, is_in_right}
+use Rattle.cg_netlist.specs.Circuit.{data_inputs}
+use Rattle.cg_netlist.proofs.Filtered.{range_in}
 use Rattle.cg_machine.specs.Machine.{MachineData}
-use Rattle.cg_claim.specs.Leaves.{is_source, same_source, sources}
-use Rattle.cg_claim.specs.Question.{idle_question}
+use Rattle.cg_claim.specs.Reach.{registers_of}
+use Rattle.cg_claim.specs.declared.leaf.LeafSource.TheVariants.{Input, Register}
+use Rattle.cg_claim.specs.Leaves.{is_source, same_source}
+use Rattle.cg_claim.specs.Question.{CopyPart, idle_question}
 use Rattle.cg_claim.specs.declared.leaf.Leaf.{Leaf}
 use Rattle.cg_claim.specs.declared.leaf.LeafSource.{LeafSource}
 use Rattle.cg_claim.proofs.LeavesFound.{source_among, source_is}
-use Rattle.cg_hint_laws.specs.Leaves.{is_leaf, leaf_place, leaves_at, leaves_of, same_leaf}
-use Rattle.cg_hint_laws.specs.Question.{Question}
+use Rattle.cg_claim.specs.form.Leaves.{is_cut, is_leaf, is_other_leaf, leaf_place, leaves_at, leaves_of, same_leaf, cut_sources, with_other}
+use Rattle.cg_claim.specs.form.Question.{Changes, Ends, Question, Shows}
 
 pub place_below : (leaves : List Leaf) (l : Leaf) (k : ℕ) → leaf_place leaves l ≡ Some k → k < length leaves
 place_below [] l k at = absurd (cc)
@@ -85,7 +91,68 @@ in_range f l (suc n) a i low high h = go (λ past. in_range f l n (a + 1) i past
     go later true is = any_left l (f a) (flat_map f (range_with_len (a + 1) n)) (subst (λ k. list_any (same_leaf l) (f k) ≡ true) (sym (eqb-true a i is)) h)
     go later false is = let other = eqb-false a i is in any_right l (f a) (flat_map f (range_with_len (a + 1) n)) (later (omega (arith, low, other)))
 
-pub leaf_among : (m : MachineData) (q : Question) (i : ℕ) → i ≤ q.after → (source : LeafSource) → is_source m source ≡ true → is_leaf m q i source ≡ true → list_any (same_leaf (record { copy = i; source = source })) (leaves_of m q) ≡ true
-leaf_among m q i inside source is reached =
-    in_range (leaves_at m q) (record { copy = i; source = source }) (q.after + 1) 0 i (omega arith) (omega (arith, inside))
-    (in_leaves (is_leaf m q i) i source (sources m) (source_among m (idle_question []) source is) reached)
+-- what is a leaf of a cycle is among the leaves of its question
+pub leaf_among : (m : MachineData) (q : Question) (i : ℕ) → i ≤ q.after → (source : LeafSource) → list_any (same_source source) (cut_sources m q.cut) ≡ true → is_leaf m q i source ≡ true
+    → list_any (same_leaf (record { copy = i; source = source })) (leaves_of m q) ≡ true
+leaf_among m q i inside source among reached = go q.ends
+  where
+    there : list_any (same_leaf (record { copy = i; source = source })) (flat_map (leaves_at m q) (range_with_len 0 (q.after + 1))) ≡ true
+    there =
+        in_range (leaves_at m q) (record { copy = i; source = source }) (q.after + 1) 0 i (omega arith) (omega (arith, inside))
+        (in_leaves (is_leaf m q i) i source (cut_sources m q.cut) among reached)
+
+    go : (e : Ends) → list_any (same_leaf (record { copy = i; source = source })) (with_other m q e (flat_map (leaves_at m q) (range_with_len 0 (q.after + 1)))) ≡ true
+    go (Changes register) = there
+    go (Shows part G) = any_left (record { copy = i; source = source }) (flat_map (leaves_at m q) (range_with_len 0 (q.after + 1))) (map (λ s. record { copy = suc q.after; source = s }) (filter (is_other_leaf m q G) (cut_sources m q.cut))) there
+
+-- and so is what is one of the last cycle with other bits
+pub other_among : (m : MachineData) (q : Question) (part : CopyPart) (G : List ℕ) → q.ends ≡ Shows part G → (source : LeafSource) → list_any (same_source source) (cut_sources m q.cut) ≡ true → is_other_leaf m q G source ≡ true
+    → list_any (same_leaf (record { copy = suc q.after; source = source })) (leaves_of m q) ≡ true
+other_among m q part G ends source among reached =
+    subst (λ e. list_any (same_leaf (record { copy = suc q.after; source = source })) (with_other m q e (flat_map (leaves_at m q) (range_with_len 0 (q.after + 1)))) ≡ true) (sym ends)
+    (any_right (record { copy = suc q.after; source = source }) (flat_map (leaves_at m q) (range_with_len 0 (q.after + 1))) (map (λ s. record { copy = suc q.after; source = s }) (filter (is_other_leaf m q G) (cut_sources m q.cut)))
+    (in_leaves (is_other_leaf m q G) (suc q.after) source (cut_sources m q.cut) among reached))
+
+-- with a cut its nets stand behind the data inputs
+any_before : (test : LeafSource → Bool) (xs ys : List LeafSource) → list_any test xs ≡ true → list_any test (xs ++ ys) ≡ true
+any_before test [] ys h = absurd (both_ways false refl h)
+any_before test (x ∷ xs) ys h = elim (or_cases (test x) (list_any test xs) h) [
+  | inl a ↦ or_left (test x) (list_any test (xs ++ ys)) a
+  | inr b ↦ or_right (test x) (list_any test (xs ++ ys)) (any_before test xs ys b)
+]
+
+any_behind : (test : LeafSource → Bool) (xs ys : List LeafSource) → list_any test ys ≡ true → list_any test (xs ++ ys) ≡ true
+any_behind test [] ys h = h
+any_behind test (x ∷ xs) ys h = or_right (test x) (list_any test (xs ++ ys)) (any_behind test xs ys h)
+
+input_in : (ys : List ℕ) (y : ℕ) → is_in ys y ≡ true → list_any (same_source (Input y)) (map Input ys) ≡ true
+input_in [] y among = among
+input_in (x ∷ ys) y among = elim (or_cases (nat_eq y x) (is_in ys y) among) [
+  | inl a ↦ or_left (nat_eq y x) (list_any (same_source (Input y)) (map Input ys)) a
+  | inr b ↦ or_right (nat_eq y x) (list_any (same_source (Input y)) (map Input ys)) (input_in ys y b)
+]
+
+register_in : (rs : List ℕ) (r : ℕ) → is_in rs r ≡ true → list_any (same_source (Register r)) (map Register rs) ≡ true
+register_in [] r among = among
+register_in (x ∷ rs) r among = elim (or_cases (nat_eq r x) (is_in rs r) among) [
+  | inl a ↦ or_left (nat_eq r x) (list_any (same_source (Register r)) (map Register rs)) a
+  | inr b ↦ or_right (nat_eq r x) (list_any (same_source (Register r)) (map Register rs)) (register_in rs r b)
+]
+
+pub cut_net_in : (m : MachineData) (cut : Option (List ℕ)) (y : ℕ) → is_cut cut y ≡ true → list_any (same_source (Input y)) (cut_sources m cut) ≡ true
+cut_net_in m None y is = absurd (both_ways false refl is)
+cut_net_in m (Some cut) y is =
+    any_before (same_source (Input y)) (map Input (data_inputs m.circuit ++ cut)) (map Register (registers_of m))
+    (input_in (data_inputs m.circuit ++ cut) y (is_in_right (data_inputs m.circuit) cut y is))
+
+-- and the sources of the machine stay
+pub source_in : (m : MachineData) (cut : Option (List ℕ)) (source : LeafSource) → is_source m source ≡ true → list_any (same_source source) (cut_sources m cut) ≡ true
+source_in m None source is = source_among m (idle_question []) source is
+source_in m (Some cut) (Input y) is =
+    any_before (same_source (Input y)) (map Input (data_inputs m.circuit ++ cut)) (map Register (registers_of m))
+    (input_in (data_inputs m.circuit ++ cut) y (is_in_left (data_inputs m.circuit) cut y is))
+source_in m (Some cut) (Register r) is =
+    let below : r < length m.circuit.registers = ltb-true r (length m.circuit.registers) is in
+    let zero_r : 0 + r ≡ r = omega arith in
+    any_behind (same_source (Register r)) (map Input (data_inputs m.circuit ++ cut)) (map Register (registers_of m))
+    (register_in (registers_of m) r (subst (λ k. is_in (registers_of m) k ≡ true) zero_r (range_in (length m.circuit.registers) 0 r below)))

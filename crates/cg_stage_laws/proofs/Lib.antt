@@ -10,3 +10,5 @@ pub mod UnseenSafe
 pub mod StageSafe
 pub mod CellsThere
 pub mod StageKeeps
+pub mod Missing
+pub mod Appended

@@ -1,5 +1,6 @@
 pub mod AddedDrivers
 pub mod AddedNames
+pub mod Appended
 pub mod Bits
 pub mod Cycles
 pub mod Extended

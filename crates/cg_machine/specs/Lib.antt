@@ -1,4 +1,5 @@
 pub mod Added
+pub mod Appends
 pub mod Claims
 pub mod Extends
 pub mod Gates

@@ -10,3 +10,4 @@ pub mod UnseenSafe
 pub mod StageSafe
 pub mod CellsThere
 pub mod StageKeeps
+pub mod Missing

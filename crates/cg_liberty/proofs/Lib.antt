@@ -7,6 +7,7 @@ pub mod Readings
 pub mod GaterCells
 pub mod Restated
 pub mod FlopCells
+pub mod FlopPins
 pub mod Adding
 pub mod NamedCells
 pub mod AddedCells

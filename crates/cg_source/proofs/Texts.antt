@@ -1,5 +1,5 @@
 -- What is found of the text of a library, of a formula and of a log is what the text says.
-use Rattle.std.proofs.Common.{◌≡◌, ℕ, List, Ok}
+use Rattle.std.proofs.Common.{◌≡◌, ℕ, false, List, Ok}
 use Rattle.cg_cell.specs.Cell.{CellData}
 use Rattle.cg_formula.specs.DimacsReading.{dimacs}
 use Rattle.cg_formula.specs.DimacsText.{DimacsText}
@@ -17,8 +17,8 @@ use Rattle.cg_source.specs.Library.{library_found, library_trouble}
 use Rattle.cg_source.specs.Log.{log_found, log_trouble}
 use Rattle.cg_source.proofs.Taken.{refused_ok}
 
-pub library_says : (text : List ℕ) (library : List CellData) → library_found text ≡ Ok library → LibText text library
-library_says text library is = text_of_library text library (refused_ok library_trouble (library_of text) library is)
+pub library_says : (text : List ℕ) (library : List CellData) → library_found text ≡ Ok library → LibText false text library
+library_says text library is = text_of_library false text library (refused_ok library_trouble (library_of false text) library is)
 
 pub formula_says : (text : List ℕ) (formula : Formula) → formula_found text ≡ Ok formula → DimacsText text formula
 formula_says text formula is = formula_is_text text formula (refused_ok formula_trouble (dimacs text) formula is)

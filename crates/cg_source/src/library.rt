@@ -18,7 +18,7 @@ use std::alloc::{AllocError, Global};
 pub fn take_library(alloc: Global, text: &Seq<u8>) -> Result<Library, Trouble>
     ensures { Answers (library_found text.now) result }
 {
-    match read_library(alloc, text.as_slice()) {
+    match read_library(alloc, text.as_slice(), false) {
         Ok(library) => Ok(library),
         Err(fault) => Err(library_trouble(alloc, fault)?),
     }

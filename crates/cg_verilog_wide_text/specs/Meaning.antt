@@ -1,0 +1,53 @@
+-- What the items of a module say, one behind another.
+use Rattle.std.specs.Prelude.{List, [], ◌++◌, map, Option}
+use Rattle.std.specs.List.{flat_map}
+use Rattle.cg_cell.specs.Cell.{CellData}
+use Rattle.cg_net.specs.Names.{NetName}
+use Rattle.cg_verilog_wide_text.specs.Doing.{State, nothing_known}
+use Rattle.cg_verilog_wide_text.specs.Forms.{Ended, Ports, Range, Head, PortsHead}
+use Rattle.cg_verilog_wide_text.specs.Forms.{Item, PortItem, NetItem, SupplyItem, AssignItem, PlaceItem, GateItem, AlwaysItem, InitialItem}
+use Rattle.cg_verilog_wide_text.specs.Forms.{InitialBlock, ParameterItem}
+use Rattle.cg_verilog_wide_text.specs.Names.{Entry}
+use Rattle.cg_verilog_wide_text.specs.Placing.{tell_gate, tell_instance}
+use Rattle.cg_verilog_wide_text.specs.Saying.{assign_one, declare_one_net, declare_ports, declare_supply, each, entry, init_one, tell_always}
+use Rattle.cg_verilog_wide_text.specs.Saying.{with_range}
+use Rattle.cg_verilog_wide_text.specs.Tokens.{Token}
+
+abbrev pub tell_item : List CellData → Item → State → State
+tell_item library (PortItem p) s = declare_ports p s
+tell_item library (NetItem kind is range names) s = each (declare_one_net kind range) names (with_range range s)
+tell_item library (SupplyItem one is range names) s = each (declare_supply one range) names (with_range range s)
+tell_item library (AssignItem given) s = each assign_one given s
+tell_item library (PlaceItem cell given instances) s = each (tell_instance library cell) instances s
+tell_item library (GateItem gate word instances) s = each (λ g. tell_gate gate word.line g.one) instances s
+tell_item library (AlwaysItem clock closes inner) s = tell_always clock closes inner s
+tell_item library (InitialItem given) s = init_one given s
+tell_item library (InitialBlock given) s = each init_one given s
+tell_item library (ParameterItem tokens) s = s
+
+abbrev pub tell_head : Head → State → State
+tell_head (PortsHead groups) s = each declare_ports groups s
+tell_head head s = s
+
+-- the names that a module declares
+abbrev pub names_entries : {A : Type 0} → (A → Token) → Option Range → List (Ended A) → List Entry
+names_entries name range names = map (λ e. entry (name e.one) range) names
+
+abbrev pub ports_entries : Ports → List Entry
+ports_entries p = names_entries (λ d. d.name) p.range p.names
+
+abbrev pub item_entries : Item → List Entry
+item_entries (PortItem p) = ports_entries p
+item_entries (NetItem kind is range names) = names_entries (λ d. d.name) range names
+item_entries (SupplyItem one is range names) = names_entries (λ name. name) range names
+item_entries item = []
+
+abbrev pub head_entries : Head → List Entry
+head_entries (PortsHead groups) = flat_map ports_entries groups
+head_entries head = []
+
+-- what a head and items say, where the tokens of their module have these identifiers
+abbrev pub told : List CellData → List NetName → Head → List Item → State
+told library identifiers head items =
+    each (tell_item library) items
+    (tell_head head (nothing_known (record { identifiers = identifiers; vectors = head_entries head ++ flat_map item_entries items })))

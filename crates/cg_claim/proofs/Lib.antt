@@ -7,6 +7,13 @@ pub mod DriversTell
 pub mod Embedded
 pub mod EmbeddedLeaves
 pub mod EmbeddedRuns
+pub mod FormClaims
+pub mod FormConditions
+pub mod FormCut
+pub mod FormCycles
+pub mod FormGoals
+pub mod FormLeaves
+pub mod FormReached
 pub mod GivenNets
 pub mod Goal
 pub mod GoalBits
@@ -21,6 +28,8 @@ pub mod ReachedOnly
 pub mod RowOne
 pub mod RowsMore
 pub mod RowsOwn
+pub mod SameBits
+pub mod SameForm
 pub mod StagesDone
 pub mod Tried
 pub mod WholeLists

@@ -2,5 +2,6 @@ pub mod WordsRead
 pub mod Places
 pub mod EachJob
 pub mod TestInput
+pub mod NamedClock
 pub mod NetlistForm
 pub mod ModeWords

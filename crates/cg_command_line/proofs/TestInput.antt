@@ -2,6 +2,8 @@
 use Rattle.std.proofs.Common.{◌≡◌, ℕ, Bool, true, false, List, Option, None, Some, refl, sym, subst}
 use Rattle.std.specs.Prelude.{◌&&◌, ◌||◌, not, is_none, is_some, unwrap_or, IfSome}
 use Rattle.clap.specs.Words.{Text}
+use Rattle.cg_limit.specs.declared.TheConstants.{DEFAULT_MIN, DEFAULT_ROUNDS, DEFAULT_WIDTH, LEAST_MIN, LEAST_ROUNDS, LEAST_WIDTH}
+use Rattle.cg_limit.specs.declared.TheConstants.{MOST_MIN, MOST_ROUNDS, MOST_WIDTH}
 use Rattle.cg_plan_laws.specs.declared.settings.Settings.{Settings}
 use Rattle.cg_source.specs.declared.stimulus.StimulusForm.{StimulusForm}
 use Rattle.cg_command_line.specs.CommandLine.{Values}
@@ -56,7 +58,7 @@ JobNames job = NamesTest job.options
 pub test_is_named : (watchers words : List Text) → IfSome (job_of watchers words) (λ job. NamesTest job.options)
 test_is_named watchers words =
     each_job JobNames watchers
-    (λ library netlist out values different. gate_names netlist values (settings_in values) (watch_in watchers values.watch) (stimulus_in values) (settings_name (is_some values.test) (is_some values.proof) (number_or 1 1 1024 values.min) (number_or 32 1 256 values.width) (number_or 4 0 16 values.rounds)))
+    (λ library netlist out values different. gate_names netlist values (settings_in values) (watch_in watchers values.watch) (stimulus_in values) (settings_name (is_some values.test) (is_some values.proof) (number_or DEFAULT_MIN LEAST_MIN MOST_MIN values.min) (number_or DEFAULT_WIDTH LEAST_WIDTH MOST_WIDTH values.width) (number_or DEFAULT_ROUNDS LEAST_ROUNDS MOST_ROUNDS values.rounds)))
     (λ form library netlist stimulus values. sim_names netlist values (watch_in watchers values.watch))
     (λ formula log. record { asked = refl; apart = refl; unhinted = λ hinted. refl })
     (λ size. record { asked = refl; apart = refl; unhinted = λ hinted. refl })

@@ -6,7 +6,8 @@ use Rattle.std.specs.Option.{option_map, option_to_list}
 use Rattle.std.specs.Str.{bytes_eq}
 use Rattle.clap.specs.Words.{Text}
 use Rattle.cg_cell.specs.Name.{is_name}
-use Rattle.cg_limit.specs.declared.TheConstants.{MOST_ROWS}
+use Rattle.cg_limit.specs.declared.TheConstants.{DEFAULT_MIN, DEFAULT_ROUNDS, DEFAULT_WIDTH, LEAST_MIN, LEAST_ROUNDS, LEAST_WIDTH}
+use Rattle.cg_limit.specs.declared.TheConstants.{MOST_MIN, MOST_ROUNDS, MOST_ROWS, MOST_WIDTH}
 use Rattle.cg_plan_laws.specs.declared.settings.Settings.{Settings}
 use Rattle.cg_text.specs.Numbers.{number_of}
 use Rattle.cg_text.specs.declared.number.Number.{Number}
@@ -42,11 +43,11 @@ settings_with test proof _ _ _ = None
 
 abbrev pub settings_in : Values → Option Settings
 settings_in values =
-    settings_with (is_some values.test) (is_some values.proof) (number_or 1 1 1024 values.min) (number_or 32 1 256 values.width)
-    (number_or 4 0 16 values.rounds)
+    settings_with (is_some values.test) (is_some values.proof) (number_or DEFAULT_MIN LEAST_MIN MOST_MIN values.min)
+    (number_or DEFAULT_WIDTH LEAST_WIDTH MOST_WIDTH values.width) (number_or DEFAULT_ROUNDS LEAST_ROUNDS MOST_ROUNDS values.rounds)
 
 abbrev pub default_settings : Settings
-default_settings = record { min = 1; width = 32; rounds = 4; test = false; proof = false }
+default_settings = record { min = DEFAULT_MIN; width = DEFAULT_WIDTH; rounds = DEFAULT_ROUNDS; test = false; proof = false }
 
 -- a value that has to be a name, where it is given
 abbrev pub is_named : Option Text → Bool

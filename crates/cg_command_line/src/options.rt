@@ -13,12 +13,18 @@ ghost use Rattle.cg_limit.specs.declared.TheConstants.{MOST_ROWS};
 
 use crate::values::OptionWords;
 use cg_cell::name::Name;
-use cg_limit::MOST_ROWS;
+use cg_limit::{
+    DEFAULT_MIN, DEFAULT_ROUNDS, DEFAULT_WIDTH, LEAST_MIN, LEAST_ROUNDS, LEAST_WIDTH, MOST_MIN,
+    MOST_ROUNDS, MOST_ROWS, MOST_WIDTH,
+};
 use cg_plan_laws::settings::Settings;
 use cg_source::netlist::{NetlistForm, NetlistOptions};
 use cg_source::stimulus::StimulusForm;
 use cg_text::number::{Number, read_number};
 use std::alloc::{AllocError, Global};
+
+/// What the names of added nets begin with where the words do not say it.
+pub const DEFAULT_PREFIX: &str = "cg_";
 
 /// Which of the files that need not be given are given.
 #[derive(Clone, Copy, Debug, PartialEq, Eq)]
@@ -63,12 +69,12 @@ pub fn no_options(alloc: Global) -> Result<Options, AllocError>
             form: NetlistForm::Blif,
             clock: None,
         },
-        prefix: Name::new(alloc, b"cg_")?,
+        prefix: Name::new(alloc, DEFAULT_PREFIX.as_bytes())?,
         test: None,
         settings: Settings {
-            min: 1,
-            width: 32,
-            rounds: 4,
+            min: DEFAULT_MIN,
+            width: DEFAULT_WIDTH,
+            rounds: DEFAULT_ROUNDS,
             test: false,
             proof: false,
         },
@@ -262,9 +268,9 @@ fn may_hint(given: &OptionWords<'_>) -> bool
 fn settings(given: &OptionWords<'_>) -> Option<Settings>
     ensures { result ≡ settings_in (values_of given.now) }
 {
-    let min = number_or(1, 1, 1024, given.min)?;
-    let width = number_or(32, 1, 256, given.width)?;
-    let rounds = number_or(4, 0, 16, given.rounds)?;
+    let min = number_or(DEFAULT_MIN, LEAST_MIN, MOST_MIN, given.min)?;
+    let width = number_or(DEFAULT_WIDTH, LEAST_WIDTH, MOST_WIDTH, given.width)?;
+    let rounds = number_or(DEFAULT_ROUNDS, LEAST_ROUNDS, MOST_ROUNDS, given.rounds)?;
     Some(Settings {
         min,
         width,
@@ -314,7 +320,7 @@ fn is_apart(value: Option<&str>, prefix: Option<&str>) -> bool
         None => true,
         Some(value) => !value
             .as_bytes()
-            .starts_with(prefix.unwrap_or("cg_").as_bytes()),
+            .starts_with(prefix.unwrap_or(DEFAULT_PREFIX).as_bytes()),
     }
 }
 
@@ -335,7 +341,7 @@ fn prefix(alloc: Global, value: Option<&str>) -> Result<Name, AllocError>
     ensures { IfOk result (λ name. name ≡ unwrap_or (option_map (λ word. word.now) value.entry) default_prefix) }
 {
     match value {
-        None => Name::new(alloc, b"cg_"),
+        None => Name::new(alloc, DEFAULT_PREFIX.as_bytes()),
         Some(value) => Name::new(alloc, value.as_bytes()),
     }
 }

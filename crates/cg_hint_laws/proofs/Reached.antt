@@ -14,7 +14,8 @@ use Rattle.cg_claim.specs.Reach.{feeds, next_asks_own, next_nets, registers_of}
 use Rattle.cg_claim.proofs.Reached.{and_first, feeds_within}
 use Rattle.cg_hint_laws.specs.Hints.{condition_nets}
 use Rattle.cg_hint_laws.specs.Question.{Question}
-use Rattle.cg_hint_laws.specs.Reach.{Asked, asked_back, asked_before, asked_of, nets_of, reached_nets, reached_states, states_of}
+use Rattle.cg_claim.specs.form.Reach.{Asked}
+use Rattle.cg_hint_laws.specs.Reach.{asked_back, asked_before, asked_of, nets_of, reached_nets, reached_states, states_of}
 use Rattle.cg_hint_laws.specs.Violates.{IsAsked}
 
 module _ (m : MachineData) (q : Question) (asked : IsAsked m q) where

@@ -6,6 +6,9 @@ use Rattle.cg_limit.specs.declared.TheConstants.{MOST_CLAIM_NODES}
 use Rattle.cg_net.specs.NetSets.{is_in}
 use Rattle.cg_netlist.specs.Moment.{bit}
 use Rattle.cg_claim.specs.declared.leaf.LeafBit.{LeafBit}
+use Rattle.cg_claim.specs.form.Build.{claim_run as form_run}
+use Rattle.cg_claim.specs.form.Leaves.{leaves_of as form_leaves}
+use Rattle.cg_claim.specs.form.Violates.{Free as FormFree, violates as form_violates}
 use Rattle.cg_machine.specs.Added.{Added, HasNames, own_netlist}
 use Rattle.cg_machine.specs.Extends.{old}
 use Rattle.cg_machine.specs.Claims.{Literal}
@@ -17,12 +20,14 @@ use Rattle.cg_hint_laws.specs.declared.hint.Hint.{Hint}
 use Rattle.cg_hint_laws.specs.declared.outcome.HintClaim.{HintClaim}
 use Rattle.cg_hint_laws.specs.declared.outcome.HintClaim.TheVariants.{Hold}
 use Rattle.cg_hint_laws.specs.declared.outcome.HintOutcome.TheVariants.{Inserted, NeverIdle, Refuted}
+use Rattle.cg_hint_laws.specs.Build.{claim_run}
 use Rattle.cg_hint_laws.specs.Effects.{effect, hint_answer}
 use Rattle.cg_hint_laws.specs.Hints.{AreFree, CanIdle, ClaimsHold, Fits, HintHold, condition_at}
+use Rattle.cg_hint_laws.specs.Leaves.{leaves_of}
 use Rattle.cg_hint_laws.specs.Needs.{needs}
-use Rattle.cg_hint_laws.specs.Question.{Question, hold_question, idle_question}
+use Rattle.cg_hint_laws.specs.Question.{Question, form_of, hold_question, idle_question}
 use Rattle.cg_hint_laws.specs.Trying.{Hinted, Turn, all_claims, claim_nodes, claim_width, hinted, tried}
-use Rattle.cg_hint_laws.specs.Violates.{IsAsked, IsNeverOne, IsSometimesOne, goal_bit, is_never, state_at, violates_at}
+use Rattle.cg_hint_laws.specs.Violates.{Free, IsAsked, IsNeverOne, IsSometimesOne, goal_bit, is_never, state_at, violates, violates_at}
 
 -- n is m after a hint: it is a machine that shows the same, all nets and registers of m are in it, and the registers that the hint
 -- does not name have the enables that they have in m
@@ -68,6 +73,20 @@ GoalViolates = (m : MachineData) (q : Question) (bits : List Bool) → IsMachine
 -- a goal is never 1 exactly where trying all bits finds none that violate the claim
 abbrev pub NeverIsTried : Type 0
 NeverIsTried = (m : MachineData) (q : Question) → IsMachine m → IsAsked m q → (is_never m q ≡ true) ↔ IsNeverOne m q
+
+-- the free bits of a question of the common form, as the claims of hints have them
+abbrev pub kept : FormFree → Free
+kept w = record { state = w.state; inputs = w.inputs }
+
+-- A claim of a hint is a question of the common form: both have the same leaves in the same order, the same list with the same goal, and
+-- the same bits violate them.
+pub record IsSame (m : MachineData) (q : Question) : Type 0 where
+  pub leaves : form_leaves m (form_of q) ≡ leaves_of m q
+  pub claim : form_run m (form_of q) ≡ claim_run m q
+  pub violated : (w : FormFree) → form_violates m (form_of q) w ≡ violates m q (kept w)
+
+abbrev pub ClaimsAreForms : Type 0
+ClaimsAreForms = (m : MachineData) (q : Question) → IsSame m q
 
 -- the goal of a hint's register is never 1 exactly where it keeps its bit, over all states and inputs
 abbrev pub HoldIsSaid : Type 0

@@ -1,19 +1,17 @@
 -- When bits of a machine violate a claim of a hint.
-use Rattle.std.specs.Prelude.{◌≡◌, ◌<◌, ℕ, zero, suc, Bool, true, false, not, ◌&&◌, List, map, length, slice_index_or, Option, Some, None}
+use Rattle.std.specs.Prelude.{◌≡◌, ◌<◌, ℕ, zero, suc, Bool, true, false, not, ◌&&◌, List, map, length, Some}
 use Rattle.std.specs.List.{All, list_all}
-use Rattle.std.specs.Option.{option_map_or}
 use Rattle.cg_aig.specs.Aig.{aig_ops}
-use Rattle.cg_cell.specs.Gates.{exclusive_or}
 use Rattle.cg_netlist.specs.Circuit.{data_inputs}
-use Rattle.cg_netlist.specs.Moment.{bit}
-use Rattle.cg_machine.specs.Machine.{IsInputs, IsState, MachineData, each_register, next, step, values}
+use Rattle.cg_machine.specs.Machine.{IsInputs, IsState, MachineData, each_register, step, values}
 use Rattle.cg_claim.specs.LeafBits.{all_bits}
 use Rattle.cg_claim.specs.declared.leaf.Leaf.{Leaf}
-use Rattle.cg_claim.specs.declared.leaf.LeafSource.{LeafSource}
 use Rattle.cg_claim.specs.declared.leaf.LeafSource.TheVariants.{Input, Register}
+use Rattle.cg_claim.specs.form.LeafBits.{leaf_bit}
+use Rattle.cg_claim.specs.form.Violates.{changes}
 use Rattle.cg_hint_laws.specs.Build.{claim_run}
 use Rattle.cg_hint_laws.specs.Hints.{condition_at}
-use Rattle.cg_hint_laws.specs.Leaves.{leaf_place, leaves_of, width_of}
+use Rattle.cg_hint_laws.specs.Leaves.{leaves_of, width_of}
 use Rattle.cg_hint_laws.specs.Question.{Question}
 
 -- free bits: the state of the first cycle, and the inputs of each cycle
@@ -31,21 +29,11 @@ abbrev pub state_at : MachineData → List Bool → (ℕ → List Bool) → ℕ 
 state_at m s xs zero = s
 state_at m s xs (suc i) = step m (state_at m s xs i) (xs i)
 
--- whether a register changes its bit in a cycle; true where no register is asked for
-abbrev pub changes : MachineData → Option ℕ → List Bool → List Bool → Bool
-changes m None s x = true
-changes m (Some r) s x = exclusive_or (next m (values m s x) s r) (bit s r)
-
 -- whether free bits violate a claim: the condition is 0 in the first cycle, and the register changes its bit in the last
 abbrev pub violates : MachineData → Question → Free → Bool
 violates m q w =
     not (condition_at (values m w.state (w.inputs 0)) q.terms)
     && changes m q.register (state_at m w.state w.inputs q.after) (w.inputs q.after)
-
--- the bit of a leaf among bits of leaves, and 0 where it is none
-abbrev pub leaf_bit : List Leaf → List Bool → ℕ → LeafSource → Bool
-leaf_bit leaves bits i source =
-    option_map_or (λ k. slice_index_or bits k false) (leaf_place leaves (record { copy = i; source = source })) false
 
 -- the free bits of which the leaves have these bits, and all others are 0
 abbrev pub free_of : MachineData → List Leaf → List Bool → Free

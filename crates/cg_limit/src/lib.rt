@@ -1,5 +1,5 @@
 //! The limits of what is read and built, a crate of its own since every reader and every builder refuses by them: each with its
-//! number, and what every refusal has in common.
+//! number, and what every refusal has in common. Beside them stand the bounds and the defaults of the numbers that options take.
 //!
 //! A text or a circuit at a limit is taken; one past it is refused with the [`Limit`] that it passes. The pins of a cell alone
 //! have a limit that nothing is refused for: [`MOST_PINS`].
@@ -65,3 +65,32 @@ pub const MOST_ROWS: usize = 1_048_576;
 
 /// The variables that a DIMACS file may have.
 pub const MOST_VARIABLES: u32 = 16_777_216;
+
+// What the numbers of options may be, and what stands for one that is not given.
+
+/// The least number of registers that a stage has to have, where `--min` does not say it.
+pub const DEFAULT_MIN: u32 = 1;
+
+/// The least that `--min` takes.
+pub const LEAST_MIN: u32 = 1;
+
+/// The most that `--min` takes.
+pub const MOST_MIN: u32 = 1_024;
+
+/// The variables that a claim may have, where `--width` does not say it.
+pub const DEFAULT_WIDTH: u32 = 32;
+
+/// The least that `--width` takes.
+pub const LEAST_WIDTH: u32 = 1;
+
+/// The most that `--width` takes.
+pub const MOST_WIDTH: u32 = 256;
+
+/// The rounds that look for stages of stability, and then for stages of unobservability, where `--rounds` does not say it.
+pub const DEFAULT_ROUNDS: u32 = 4;
+
+/// The least that `--rounds` takes.
+pub const LEAST_ROUNDS: u32 = 0;
+
+/// The most that `--rounds` takes.
+pub const MOST_ROUNDS: u32 = 16;

@@ -1,13 +1,11 @@
 -- What a run leaves once it was closed, whatever its mode.
-use Rattle.std.proofs.Common.{◌≡◌, ◌⊎◌, inl, inr, ℕ, Bool, true, false, IsTrue, List, [], ◌++◌, Option, None, Some, Result, Ok, Err}
-use Rattle.std.proofs.Common.{refl, sym, ◌∙◌, ap, subst, if◌then◌else◌}
+use Rattle.std.proofs.Common.{◌≡◌, ◌⊎◌, inl, inr, ℕ, Bool, true, false, IsTrue, List, [], Option, None, Some, Result, Ok, Err}
+use Rattle.std.proofs.Common.{refl, sym, ◌∙◌, ap, subst}
 use Rattle.std.specs.Prelude.{IsSomeAnd}
-use Rattle.std.proofs.lemmas.List.{append-nil}
 use Rattle.cg_shelf.specs.World.{World}
-use Rattle.cg_shelf.specs.Shelf.{AppendsFront, call_faults, one_fault}
+use Rattle.cg_shelf.specs.Asked.{Calls}
+use Rattle.cg_shelf.specs.Shelf.{AppendsFront}
 use Rattle.cg_shelf.specs.declared.faults.Call.TheVariants as calls
-use Rattle.cg_shelf.specs.declared.faults.Fault.{Fault}
-use Rattle.cg_shelf.specs.declared.faults.LoadFault.{LoadFault}
 use Rattle.cg_shelf.specs.declared.faults.StoreFault.{StoreFault}
 use Rattle.cg_shelf.specs.declared.faults.StoreFault.TheVariants as stores
 use Rattle.cg_run.specs.declared.writing.Finish.{Finish}
@@ -22,15 +20,13 @@ use Rattle.cg_run.specs.declared.refusal.Step.TheVariants as steps
 use Rattle.cg_run.specs.declared.role.Role.{Role}
 use Rattle.cg_run.specs.declared.status.Status.{Status}
 use Rattle.cg_run.specs.declared.status.Status.TheVariants as statuses
-use Rattle.cg_run.specs.Refusal.{faults_of, outcome_faults, owner_status, status_of, step_of}
+use Rattle.cg_run.specs.Refusal.{faults_of, outcome_faults, owner_status, shown_as, status_of, step_of}
 use Rattle.cg_run.specs.Status.{finish_status}
 use Rattle.cg_run.specs.Reads.{Untouched}
-use Rattle.cg_run.specs.Run.{Cause, CauseAt, Closes, Leaves, Runs, StandsAt, status_after}
+use Rattle.cg_run.specs.Run.{Cause, CauseAt, Ends, Leaves, StandsAt, status_after}
 use Rattle.cg_run.specs.Writes.{HasStep, LeavesAt, Written}
-use Rattle.cg_run.specs.Promise.{Broken, CallBy, Gains, LeavesShelf, StandsBy}
+use Rattle.cg_run.specs.ByStatus.{Broken, FailsBy, StandsBy}
 use Rattle.cg_run.specs.Roles.{is_among}
-use Rattle.cg_run.specs.Verdict.{Given, Task}
-use Rattle.cg_run.proofs.ReadHalf.{tells_on}
 
 -- how a run ends that came to this, if memory is there for its complaint
 abbrev pub outcome_status : Result Finish Refusal → Status
@@ -41,44 +37,17 @@ abbrev pub EndsSo : Result Finish Refusal → Status → Type 0
 EndsSo (Ok finish) result = result ≡ finish_status finish
 EndsSo (Err refusal) result = (result ≡ status_of refusal) ⊎ (result ≡ statuses.NoMemory)
 
-pub record Closed (outcome : Result Finish Refusal) (between after : World) (result : Status) : Type 0 where
-  pub held : IsTrue between.tells → after.held ≡ between.held
-  pub said : IsTrue between.tells → after.said ≡ between.said
-  pub complaint : List Fault
-  pub failed : after.faults ≡ between.faults ++ complaint
-  pub voice : (complaint ≡ []) ⊎ (complaint ≡ one_fault calls.Complain [])
-  pub ends : EndsSo outcome result
+ends_refused : (refusal : Refusal) (has_line : Bool) (answer : Result (Unit {0}) StoreFault) (result : Status) → result ≡ status_after (status_of (shown_as has_line refusal)) answer → (result ≡ status_of refusal) ⊎ (result ≡ statuses.NoMemory)
+ends_refused refusal true (Ok x) result ends = inl ends
+ends_refused refusal true (Err stores.Failed) result ends = inl ends
+ends_refused refusal true (Err stores.NoMemory) result ends = inr ends
+ends_refused refusal false (Ok x) result ends = inr ends
+ends_refused refusal false (Err stores.Failed) result ends = inr ends
+ends_refused refusal false (Err stores.NoMemory) result ends = inr ends
 
-pub voice_of : (answer : Result (Unit {0}) StoreFault) → (call_faults calls.Complain [] answer ≡ []) ⊎ (call_faults calls.Complain [] answer ≡ one_fault calls.Complain [])
-voice_of (Ok x) = inl refl
-voice_of (Err stores.Failed) = inr refl
-voice_of (Err stores.NoMemory) = inl refl
-
-ends_refused : (refusal shown : Refusal) (has : Bool) (answer : Result (Unit {0}) StoreFault) (result : Status) → shown ≡ (if has then refusal else refusals.NoMemory (step_of refusal)) → result ≡ status_after (status_of shown) answer → (result ≡ status_of refusal) ⊎ (result ≡ statuses.NoMemory)
-ends_refused refusal shown true (Ok x) result is ends = inl (ends ∙ ap status_of is)
-ends_refused refusal shown true (Err stores.Failed) result is ends = inl (ends ∙ ap status_of is)
-ends_refused refusal shown true (Err stores.NoMemory) result is ends = inr ends
-ends_refused refusal shown false (Ok x) result is ends = inr (ends ∙ ap status_of is)
-ends_refused refusal shown false (Err stores.Failed) result is ends = inr (ends ∙ ap status_of is)
-ends_refused refusal shown false (Err stores.NoMemory) result is ends = inr ends
-
-pub closed : (names : Role → List ℕ) (outcome : Result Finish Refusal) (between after : World) (result : Status) → Closes names outcome between after result → Closed outcome between after result
-closed names (Ok finish) between after result closes = record {
-  held = λ t. ap (λ w. w.held) closes.1;
-  said = λ t. ap (λ w. w.said) closes.1;
-  complaint = [];
-  failed = ap (λ w. w.faults) closes.1 ∙ sym (append-nil between.faults);
-  voice = inl refl;
-  ends = closes.0;
-}
-closed names (Err refusal) between after result closes = record {
-  held = closes.complains.same_held;
-  said = closes.complains.same_said;
-  complaint = call_faults calls.Complain [] closes.complains.answer;
-  failed = closes.complains.failed;
-  voice = voice_of closes.complains.answer;
-  ends = ends_refused refusal closes.shown closes.has_memory closes.complains.answer result closes.is closes.complains.ends;
-}
+pub ends_so : (names : Role → List ℕ) (outcome : Result Finish Refusal) (complaint : Calls) (before after : World) (result : Status) → Ends names outcome complaint before after result → EndsSo outcome result
+ends_so names (Ok finish) complaint before after result ends = ends.status
+ends_so names (Err refusal) complaint before after result ends = ends_refused refusal ends.has_line ends.answer result ends.status
 
 -- facts of an output
 pub some_step : (out : Option Output) (P Q : Output → Type 0) → ((output : Output) → P output → Q output) → IsSomeAnd out P → IsSomeAnd out Q
@@ -147,32 +116,19 @@ finish_stands : (names : Role → List ℕ) (out : Option Output) (finish : Fini
 finish_stands names out finishes.Done before after h = h
 finish_stands names out finishes.Rejected before after h = h
 
-outcome_stands : (refused : Option Refusal) (names : Role → List ℕ) (out : Option Output) (outcome : Result Finish Refusal) (before after : World) (result : Status) → Cause refused out outcome → Leaves names out before after outcome → EndsSo outcome result → StandsBy names out before after result
+pub outcome_stands : (refused : Option Refusal) (names : Role → List ℕ) (out : Option Output) (outcome : Result Finish Refusal) (before after : World) (result : Status) → Cause refused out outcome → Leaves names out before after outcome → EndsSo outcome result → StandsBy names out before after result
 outcome_stands refused names out (Ok finish) before after result cause leaves ends = let P : Status → Type 0 = λ s. StandsBy names out before after s in subst P (sym ends) (finish_stands names out finish before after leaves)
 outcome_stands refused names out (Err refusal) before after result cause leaves (inl ends) = let P : Status → Type 0 = λ s. StandsBy names out before after s in subst P (sym ends) (refusal_stands refused names out refusal before after cause leaves)
 outcome_stands refused names out (Err refusal) before after result cause leaves (inr ends) = let P : Status → Type 0 = λ s. StandsBy names out before after s in subst P (sym ends) (memory_stands refused names out refusal (step_of refusal) before after cause leaves)
 
-pub stands : (gave : List ℕ → Result (List ℕ) LoadFault → Type 0) (task : Task) (names : Role → List ℕ) (before after : World) (result : Status) → Runs gave task names before after result → IsTrue before.tells → LeavesShelf task names before after result
-stands gave task names before after result runs t =
-    let c = closed names runs.outcome runs.between after result runs.closes in
-    let u = tells_on before.tells runs.between.tells runs.attempts.tells t in
-    let a = runs.attempts in
-    record {
-      given = a.given;
-      told = a.told t;
-      out = a.out;
-      comes = a.comes;
-      stands = outcome_stands (task.refused a.given) names a.out runs.outcome before after result a.cause (stays names a.out runs.outcome before runs.between after (c.held u) (c.said u) (a.leaves t)) c.ends;
-    }
-
 -- the failed calls, status by status
-owner_calls : (names : Role → List ℕ) (loads : List Role) (out : Option Output) (owner : Owner) → CallBy names loads out [] (owner_status owner)
+owner_calls : (names : Role → List ℕ) (loads : List Role) (out : Option Output) (owner : Owner) → FailsBy names loads out [] (owner_status owner)
 owner_calls names loads out owners.Netlist = refl
 owner_calls names loads out owners.Library = refl
 owner_calls names loads out owners.Stimulus = refl
 
 refusal_calls : (refused : Option Refusal) (names : Role → List ℕ) (loads : List Role) (out : Option Output) (refusal : Refusal) → ((role : Role) → refused ≡ Some (refusals.Load role) → IsTrue (is_among role loads)) → CauseAt refused out refusal (step_of refusal)
-    → CallBy names loads out (faults_of names refusal) (status_of refusal)
+    → FailsBy names loads out (faults_of names refusal) (status_of refusal)
 refusal_calls refused names loads out (refusals.Content content) named cause = owner_calls names loads out content.owner
 refusal_calls refused names loads out (refusals.Limit limit) named cause = refl
 refusal_calls refused names loads out (refusals.Load role) named cause = (role, (named role cause, refl))
@@ -180,7 +136,7 @@ refusal_calls refused names loads out (refusals.Store role) named cause = inl (r
 refusal_calls refused names loads out refusals.Say named cause = inr refl
 refusal_calls refused names loads out (refusals.NoMemory step) named cause = inl refl
 
-memory_calls : (names : Role → List ℕ) (loads : List Role) (out : Option Output) (refusal : Refusal) → CallBy names loads out (faults_of names refusal) statuses.NoMemory
+memory_calls : (names : Role → List ℕ) (loads : List Role) (out : Option Output) (refusal : Refusal) → FailsBy names loads out (faults_of names refusal) statuses.NoMemory
 memory_calls names loads out (refusals.Content content) = inl refl
 memory_calls names loads out (refusals.Limit limit) = inl refl
 memory_calls names loads out (refusals.Load role) = inr (record { call = calls.Load; name = names role }, refl)
@@ -188,28 +144,12 @@ memory_calls names loads out (refusals.Store role) = inr (record { call = calls.
 memory_calls names loads out refusals.Say = inr (record { call = calls.Say; name = [] }, refl)
 memory_calls names loads out (refusals.NoMemory step) = inl refl
 
-finish_calls : (names : Role → List ℕ) (loads : List Role) (out : Option Output) (finish : Finish) → CallBy names loads out [] (finish_status finish)
+finish_calls : (names : Role → List ℕ) (loads : List Role) (out : Option Output) (finish : Finish) → FailsBy names loads out [] (finish_status finish)
 finish_calls names loads out finishes.Done = refl
 finish_calls names loads out finishes.Rejected = refl
 
-outcome_calls : (refused : Option Refusal) (names : Role → List ℕ) (loads : List Role) (out : Option Output) (outcome : Result Finish Refusal) (result : Status) → ((role : Role) → refused ≡ Some (refusals.Load role) → IsTrue (is_among role loads)) → Cause refused out outcome → EndsSo outcome result
-    → CallBy names loads out (outcome_faults names outcome) result
-outcome_calls refused names loads out (Ok finish) result named cause ends = let P : Status → Type 0 = λ s. CallBy names loads out [] s in subst P (sym ends) (finish_calls names loads out finish)
-outcome_calls refused names loads out (Err refusal) result named cause (inl ends) = let P : Status → Type 0 = λ s. CallBy names loads out (faults_of names refusal) s in subst P (sym ends) (refusal_calls refused names loads out refusal named cause)
-outcome_calls refused names loads out (Err refusal) result named cause (inr ends) = let P : Status → Type 0 = λ s. CallBy names loads out (faults_of names refusal) s in subst P (sym ends) (memory_calls names loads out refusal)
-
-pub gains : (gave : List ℕ → Result (List ℕ) LoadFault → Type 0) (task : Task) (names : Role → List ℕ) (before after : World) (result : Status)
-    → ((given : Given) (role : Role) → task.refused given ≡ Some (refusals.Load role) → IsTrue (is_among role task.loads)) → Runs gave task names before after result → Gains task names before after result
-gains gave task names before after result named runs =
-    let c = closed names runs.outcome runs.between after result runs.closes in
-    let a = runs.attempts in
-    record {
-      given = a.given;
-      out = a.out;
-      comes = a.comes;
-      made = outcome_faults names runs.outcome;
-      complaint = c.complaint;
-      failed = c.failed ∙ ap (λ f. f ++ c.complaint) a.failed;
-      by = outcome_calls (task.refused a.given) names task.loads a.out runs.outcome result (named a.given) a.cause c.ends;
-      voice = c.voice;
-    }
+pub outcome_calls : (refused : Option Refusal) (names : Role → List ℕ) (loads : List Role) (out : Option Output) (outcome : Result Finish Refusal) (result : Status) → ((role : Role) → refused ≡ Some (refusals.Load role) → IsTrue (is_among role loads)) → Cause refused out outcome → EndsSo outcome result
+    → FailsBy names loads out (outcome_faults names outcome) result
+outcome_calls refused names loads out (Ok finish) result named cause ends = let P : Status → Type 0 = λ s. FailsBy names loads out [] s in subst P (sym ends) (finish_calls names loads out finish)
+outcome_calls refused names loads out (Err refusal) result named cause (inl ends) = let P : Status → Type 0 = λ s. FailsBy names loads out (faults_of names refusal) s in subst P (sym ends) (refusal_calls refused names loads out refusal named cause)
+outcome_calls refused names loads out (Err refusal) result named cause (inr ends) = let P : Status → Type 0 = λ s. FailsBy names loads out (faults_of names refusal) s in subst P (sym ends) (memory_calls names loads out refusal)

@@ -4,7 +4,6 @@ use Rattle.std.proofs.Common.{Some, Result, Ok, Err, refl, sym, ◌∙◌, ap, s
 use Rattle.std.specs.Prelude.{IfSome, IsOkAnd, IsSomeAnd}
 use Rattle.std.proofs.lemmas.Bool.{le-ltb, lt-ltb}
 use Rattle.cg_shelf.specs.World.{World}
-use Rattle.cg_shelf.specs.declared.faults.LoadFault.{LoadFault}
 use Rattle.cg_shelf.specs.declared.faults.LoadFault.TheVariants as loads
 use Rattle.cg_limit.specs.declared.TheConstants.{MOST_FILE_BYTES}
 use Rattle.cg_run.specs.declared.writing.Finish.{Finish}
@@ -24,7 +23,7 @@ use Rattle.cg_run.specs.Run.{Cause, CauseAt, Runs}
 use Rattle.cg_run.specs.declared.refusal.Trouble.{Trouble}
 use Rattle.cg_run.specs.Verdict.{ComesTo, Given, Loaded, Task, reached, refusal_in, taken, task_of, ◌>>=◌}
 use Rattle.cg_run.specs.Promise.{EndsAs, EndsBy, UnlessFails, held_files, loaded_of}
-use Rattle.cg_run.proofs.Closed.{EndsSo, closed}
+use Rattle.cg_run.proofs.Closed.{EndsSo, ends_so}
 
 -- a file was not loaded, or its load failed or found no memory
 abbrev IsLost : Loaded → Type 0
@@ -147,13 +146,11 @@ both : (task : Task) (given : Given) (out : Option Output) → IfSome out (Comes
 both task given (Some output) h = (h.unrefused, h.comes)
 both task given None h = tt
 
-pub completes : {M : Type 0} (gave : List ℕ → Result (List ℕ) LoadFault → Type 0) (takes : M → Role → List ℕ → Result M Trouble) (stops : M → Option Trouble) (gives : M → Output → Type 0) (state : M) (files : List Role) (names : Role → List ℕ) (before after : World) (result : Status)
-    → Runs gave (task_of takes stops gives state files) names before after result → IsTrue before.tells → UnlessFails (EndsAs (task_of takes stops gives state files) (held_files names before)) result
-completes gave takes stops gives state files names before after result runs t =
-    let c = closed names runs.outcome runs.between after result runs.closes in
-    let a = runs.attempts in
-    let v = reached takes stops state files a.given in
+pub completes : {M : Type 0} (takes : M → Role → List ℕ → Result M Trouble) (stops : M → Option Trouble) (gives : M → Output → Type 0) (state : M) (files : List Role) (names : Role → List ℕ) (before after : World) (result : Status)
+    → Runs (task_of takes stops gives state files) names before after result → IsTrue before.tells → UnlessFails (EndsAs (task_of takes stops gives state files) (held_files names before)) result
+completes takes stops gives state files names before after result runs t =
+    let v = reached takes stops state files runs.given in
     let w = reached takes stops state files (held_files names before) in
-    either_ends gives v w a.out runs.outcome result
-    (reached_held takes stops state files a.given (held_files names before) (λ role. gave_held (before.held (names role)) (a.given role) (a.told t role)))
-    (both (task_of takes stops gives state files) a.given a.out a.comes) a.cause c.ends
+    either_ends gives v w runs.out runs.outcome result
+    (reached_held takes stops state files runs.given (held_files names before) (λ role. gave_held (before.held (names role)) (runs.given role) (runs.told t role)))
+    (both (task_of takes stops gives state files) runs.given runs.out runs.comes) runs.cause (ends_so names runs.outcome runs.complaint before after result runs.ends)

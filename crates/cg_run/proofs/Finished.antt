@@ -2,7 +2,6 @@
 use Rattle.std.proofs.Common.{◌≡◌, inl, inr, ℕ, IsTrue, List, Option, None, Some, Result, Ok, Err, refl, sym, subst}
 use Rattle.std.specs.Prelude.{IfSome, IsSomeAnd}
 use Rattle.cg_shelf.specs.World.{World}
-use Rattle.cg_shelf.specs.declared.faults.LoadFault.{LoadFault}
 use Rattle.cg_run.specs.declared.writing.Finish.{Finish}
 use Rattle.cg_run.specs.declared.writing.Finish.TheVariants as finishes
 use Rattle.cg_run.specs.declared.writing.Output.{Output}
@@ -13,13 +12,14 @@ use Rattle.cg_run.specs.declared.refusal.Refusal.TheVariants as refusals
 use Rattle.cg_run.specs.declared.role.Role.{Role}
 use Rattle.cg_run.specs.declared.status.Status.{Status}
 use Rattle.cg_run.specs.declared.status.Status.TheVariants as statuses
-use Rattle.cg_run.specs.Promise.{Ended, FinishBy, VoiceBy}
+use Rattle.cg_run.specs.Promise.{FinishBy}
 use Rattle.cg_run.specs.Reads.{Agrees}
 use Rattle.cg_run.specs.Refusal.{owner_status, status_of}
-use Rattle.cg_run.specs.Run.{Cause, Leaves}
+use Rattle.cg_run.specs.Run.{Cause, Leaves, Runs}
 use Rattle.cg_run.specs.Status.{finish_status}
 use Rattle.cg_run.specs.Verdict.{ComesTo, Given, Task}
 use Rattle.cg_run.specs.Writes.{Written}
+use Rattle.cg_run.proofs.Closed.{EndsSo, ends_so}
 
 -- what is known of a run that finished, over a shelf that tells
 pub record Finishes (task : Task) (names : Role → List ℕ) (before after : World) (finish : Finish) : Type 0 where
@@ -47,10 +47,10 @@ finish_status_by : (P : Finish → Type 0) (finish : Finish) → P finish → Fi
 finish_status_by P finishes.Done h = h
 finish_status_by P finishes.Rejected h = h
 
-outcome_by : (names : Role → List ℕ) (P : Finish → Type 0) (outcome : Result Finish Refusal) (before after : World) (result : Status) → VoiceBy names outcome before after result → ((finish : Finish) → outcome ≡ Ok finish → P finish) → FinishBy P result
-outcome_by names P (Ok finish) before after result voice each = let Q : Status → Type 0 = λ s. FinishBy P s in subst Q (sym voice.0) (finish_status_by P finish (each finish refl))
-outcome_by names P (Err refusal) before after result (inl voice) each = let Q : Status → Type 0 = λ s. FinishBy P s in subst Q (sym voice.0) (unfinished refusal P)
-outcome_by names P (Err refusal) before after result (inr voice) each = let Q : Status → Type 0 = λ s. FinishBy P s in subst Q (sym voice.0) tt
+outcome_by : (P : Finish → Type 0) (outcome : Result Finish Refusal) (result : Status) → EndsSo outcome result → ((finish : Finish) → outcome ≡ Ok finish → P finish) → FinishBy P result
+outcome_by P (Ok finish) result ends each = let Q : Status → Type 0 = λ s. FinishBy P s in subst Q (sym ends) (finish_status_by P finish (each finish refl))
+outcome_by P (Err refusal) result (inl ends) each = let Q : Status → Type 0 = λ s. FinishBy P s in subst Q (sym ends) (unfinished refusal P)
+outcome_by P (Err refusal) result (inr ends) each = let Q : Status → Type 0 = λ s. FinishBy P s in subst Q (sym ends) tt
 
 finishes_case : (task : Task) (names : Role → List ℕ) (before after : World) (finish : Finish) (given : Given) (out : Option Output)
     → ((role : Role) → Agrees (before.held (names role)) (given role)) → IfSome out (ComesTo task given) → IsSomeAnd out (λ o. o.finish ≡ finish) → IsSomeAnd out (λ o. Written names o before after) → Finishes task names before after finish
@@ -64,11 +64,11 @@ done_case task names before after given out outcome finish is told comes cause l
     let L : Result Finish Refusal → Type 0 = λ o. Leaves names out before after o in
     finishes_case task names before after finish given out told comes (subst C is cause) (subst L is leaves)
 
-pub finished_so : (gave : List ℕ → Result (List ℕ) LoadFault → Type 0) (task : Task) (names : Role → List ℕ) (before after : World) (result : Status) → Ended gave task names before after result → IsTrue before.tells
+pub finished_so : (task : Task) (names : Role → List ℕ) (before after : World) (result : Status) → Runs task names before after result → IsTrue before.tells
     → FinishBy (λ finish. Finishes task names before after finish) result
-finished_so gave task names before after result ended t =
-    outcome_by names (λ finish. Finishes task names before after finish) ended.outcome before after result ended.voice
-    (λ finish is. done_case task names before after ended.given ended.out ended.outcome finish is (ended.told t) ended.comes ended.cause (ended.stands t))
+finished_so task names before after result runs t =
+    outcome_by (λ finish. Finishes task names before after finish) runs.outcome result (ends_so names runs.outcome runs.complaint before after result runs.ends)
+    (λ finish is. done_case task names before after runs.given runs.out runs.outcome finish is (runs.told t) runs.comes runs.cause (runs.leaves t))
 
 -- a fact that follows from one of a finished run
 pub finish_map : (P Q : Finish → Type 0) (result : Status) → ((finish : Finish) → P finish → Q finish) → FinishBy P result → FinishBy Q result

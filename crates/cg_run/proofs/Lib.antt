@@ -3,10 +3,12 @@ pub mod ReadHalf
 pub mod WriteHalf
 pub mod Attempted
 pub mod RefusedSo
+pub mod LineRoom
 pub mod Closed
 pub mod Others
 pub mod Completes
 pub mod Voice
+pub mod Whole
 pub mod Named
 pub mod Finished
 pub mod Steps

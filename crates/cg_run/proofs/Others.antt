@@ -5,7 +5,6 @@ use Rattle.std.specs.Prelude.{IfSome, IsSomeAnd}
 use Rattle.std.specs.Str.{bytes_eq}
 use Rattle.std.proofs.lemmas.Slice.Eq.{bytes_eq-Decides}
 use Rattle.cg_shelf.specs.World.{World}
-use Rattle.cg_shelf.specs.declared.faults.LoadFault.{LoadFault}
 use Rattle.cg_run.specs.declared.writing.Finish.{Finish}
 use Rattle.cg_run.specs.declared.writing.Output.{Output}
 use Rattle.cg_run.specs.declared.writing.Text.{Text}
@@ -21,9 +20,7 @@ use Rattle.cg_run.specs.Writes.{HasStep, LeavesAt, OpenAt, Written, is_stored, p
 use Rattle.cg_run.specs.Promise.{IsApart, KeepsOthers}
 use Rattle.cg_run.specs.Verdict.{ComesTo, Given, Task}
 use Rattle.cg_run.proofs.RoleLaws.{is_its_role}
-use Rattle.cg_run.proofs.ReadHalf.{tells_on}
 use Rattle.cg_run.proofs.WriteHalf.{or_left, or_right}
-use Rattle.cg_run.proofs.Closed.{closed}
 
 put_kept : (held : List ℕ → Option (List ℕ)) (name bytes other : List ℕ) (same : Bool) → bytes_eq other name ≡ same → other ≢ name → (if same then Some bytes else held other) ≡ held other
 put_kept held name bytes other true is apart = absurd (apart ((bytes_eq-Decides other name).0 is))
@@ -76,10 +73,6 @@ apart_from : (task : Task) (names : Role → List ℕ) (name : List ℕ) (given 
 apart_from task names name given (Some output) each comes = each output comes
 apart_from task names name given None each comes = tt
 
-pub others : (gave : List ℕ → Result (List ℕ) LoadFault → Type 0) (task : Task) (names : Role → List ℕ) (before after : World) (result : Status) → Runs gave task names before after result → IsTrue before.tells → KeepsOthers task names before after
-others gave task names before after result runs t name apart =
-    let c = closed names runs.outcome runs.between after result runs.closes in
-    let u = tells_on before.tells runs.between.tells runs.attempts.tells t in
-    let a = runs.attempts in
-    ap (λ h. h name) (c.held u)
-    ∙ outcome_kept (task.refused a.given) names a.out runs.outcome before runs.between name (apart_from task names name a.given a.out (apart a.given) a.comes) a.cause (a.leaves t)
+pub others : (task : Task) (names : Role → List ℕ) (before after : World) (result : Status) → Runs task names before after result → IsTrue before.tells → KeepsOthers task names before after
+others task names before after result runs t name apart =
+    outcome_kept (task.refused runs.given) names runs.out runs.outcome before after name (apart_from task names name runs.given runs.out (apart runs.given) runs.comes) runs.cause (runs.leaves t)

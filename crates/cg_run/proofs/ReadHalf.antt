@@ -1,10 +1,11 @@
 -- The reading half of a run, from its loads and what the mode made of them.
-use Rattle.std.proofs.Common.{◌≡◌, inl, inr, ℕ, Bool, not, IsTrue, List, [], ◌∷◌, ◌++◌, Option, None, Some, Result, Ok, Err, refl}
+use Rattle.std.proofs.Common.{◌≡◌, ℕ, Bool, not, IsTrue, List, [], ◌∷◌, ◌++◌, Option, None, Some, Result, Ok, Err, refl}
 use Rattle.std.proofs.Common.{sym, ◌∙◌, ap, subst, append_assoc, append-nil}
-use Rattle.std.specs.Prelude.{IfSome, IsOkAnd, ⊤}
+use Rattle.std.specs.Prelude.{IfErr, IsOkAnd, ⊤}
+use Rattle.cg_limit.specs.declared.TheConstants.{MOST_FILE_BYTES}
 use Rattle.cg_shelf.specs.World.{World}
-use Rattle.cg_shelf.specs.Shelf.{Listed, ListsLoad, load_faults, one_call}
-use Rattle.cg_shelf.specs.declared.faults.Call.TheVariants as calls
+use Rattle.cg_shelf.specs.Asked as shelf
+use Rattle.cg_shelf.specs.Shelf.{load_faults}
 use Rattle.cg_shelf.specs.declared.faults.Fault.{Fault}
 use Rattle.cg_shelf.specs.declared.faults.LoadFault.{LoadFault}
 use Rattle.cg_shelf.specs.declared.faults.LoadFault.TheVariants as loads
@@ -14,11 +15,11 @@ use Rattle.cg_run.specs.declared.refusal.Trouble.{Trouble}
 use Rattle.cg_run.specs.declared.refusal.Trouble.TheVariants as troubles
 use Rattle.cg_run.specs.declared.role.Role.{Role}
 use Rattle.cg_run.specs.Reads.{Agrees, Reads, Untouched, load_calls}
-use Rattle.cg_run.specs.inner.Steps.{Loads, loaded_role}
+use Rattle.cg_run.specs.inner.Steps.{Loads}
 use Rattle.cg_run.specs.Refusal.{outcome_faults, refusal_of}
 use Rattle.cg_run.specs.Roles.{are_distinct, is_among}
-use Rattle.cg_run.specs.Verdict.{Answers, Comes, Given, Halts, Loaded, asked, asked_from, brought, onward, reached, refusal_in}
-use Rattle.cg_run.specs.Verdict.{stopped, taken, troubled, ◌>>=◌}
+use Rattle.cg_run.specs.Verdict.{Answers, Comes, EndAtFaults, FileLoaded, Given, Halts, Loaded, asked, asked_from, brought, onward, reached, refusal_in}
+use Rattle.cg_run.specs.Verdict.{IsRefused, stopped, taken, troubled, unloaded, ◌>>=◌}
 use Rattle.cg_run.proofs.RoleLaws.{and_parts, asked_none, asked_same, asked_with, bind_same, given_each, given_here, given_with}
 use Rattle.cg_run.proofs.RoleLaws.{none_given, reached_with}
 
@@ -46,55 +47,32 @@ given_faults names role (Err loads.Failed) = refl
 given_faults names role (Err loads.TooLong) = refl
 given_faults names role (Err loads.NoMemory) = refl
 
-module _ (gave : List ℕ → Result (List ℕ) LoadFault → Type 0) (names : Role → List ℕ) (role : Role) (name : List ℕ) (same : name ≡ names role) (before after : World) where
-  -- one load that was made
-  loads_so : (given : Result (List ℕ) LoadFault) → gave name given
-      → (IsTrue before.tells → Agrees (before.held name) (Some given)) → Listed calls.Load name before after
-      → (IsTrue before.tells → after.held ≡ before.held) → (IsTrue before.tells → after.said ≡ before.said) → (IsTrue before.tells → after.complained ≡ before.complained)
-      → after.tells ≡ before.tells → after.faults ≡ before.faults ++ load_faults name given
-      → Loads gave names role before after (brought role (Some given))
-  loads_so given from told listed held said complained tells failed = record {
-    given = Some given;
-    from = subst (λ n. gave n given) same from;
-    told = λ t. let P : List ℕ → Type 0 = λ n. Agrees (before.held n) (Some given) in subst P same (told t);
-    is = refl;
-    listed = λ t. listed t ∙ ap (λ n. before.calls ++ one_call calls.Load n) same;
-    untouched = λ t. record { held = held t; said = said t };
-    quiet = complained;
-    tells = tells;
-    failed = failed ∙ ap (λ faults. before.faults ++ faults) (ap (λ n. load_faults n given) same ∙ given_faults names role given);
-  }
+-- one load, by what the shelf says of it
+pub loads_so : (names : Role → List ℕ) (role : Role) (name : List ℕ) (before after : World) (gave : Result (List ℕ) LoadFault) → name ≡ names role
+    → (IsTrue before.tells → Agrees (before.held name) (Some gave)) → after.calls ≡ before.calls ++ shelf.Loaded name MOST_FILE_BYTES gave ∷ []
+    → (IsTrue before.tells → after.held ≡ before.held) → (IsTrue before.tells → after.said ≡ before.said) → (IsTrue before.tells → after.complained ≡ before.complained)
+    → after.tells ≡ before.tells → after.faults ≡ before.faults ++ load_faults name gave
+    → Loads names role before after (brought role (Some gave))
+loads_so names role name before after gave same told listed held said complained tells failed = record {
+  gave = gave;
+  told = λ t. let P : List ℕ → Type 0 = λ n. Agrees (before.held n) (Some gave) in subst P same (told t);
+  is = refl;
+  listed = listed ∙ ap (λ n. before.calls ++ shelf.Loaded n MOST_FILE_BYTES gave ∷ []) same;
+  untouched = λ t. record { held = held t; said = said t };
+  quiet = complained;
+  tells = tells;
+  failed = failed ∙ ap (λ faults. before.faults ++ faults) (ap (λ n. load_faults n gave) same ∙ given_faults names role gave);
+}
 
-  -- one load that found no memory before it began
-  loads_not : after ≡ before → Loads gave names role before after (brought role None)
-  loads_not still = record {
-    given = None;
-    from = tt;
-    told = λ t. tt;
-    is = refl;
-    listed = λ t. ap (λ w. w.calls) still ∙ sym (append-nil before.calls);
-    untouched = λ t. record { held = ap (λ w. w.held) still; said = ap (λ w. w.said) still };
-    quiet = λ t. ap (λ w. w.complained) still;
-    tells = ap (λ w. w.tells) still;
-    failed = ap (λ w. w.faults) still ∙ sym (append-nil before.faults);
-  }
-
-  pub loads_ok : (bytes : List ℕ) → gave name (Ok bytes)
-      → (IsTrue before.tells → Agrees (before.held name) (Some (Ok bytes))) → Listed calls.Load name before after
-      → (IsTrue before.tells → after.held ≡ before.held) → (IsTrue before.tells → after.said ≡ before.said) → (IsTrue before.tells → after.complained ≡ before.complained)
-      → after.tells ≡ before.tells → after.faults ≡ before.faults ++ load_faults name (Ok bytes)
-      → Loads gave names role before after (Ok bytes)
-  loads_ok bytes = loads_so (Ok bytes)
-
-  pub loads_err : (T : Type 0) (fault : LoadFault) → gave name (Err fault)
-      → (IsTrue before.tells → Agrees (before.held name) (Some (Err fault))) → ListsLoad {T = T} name before after (Err fault)
-      → (IsTrue before.tells → after.held ≡ before.held) → (IsTrue before.tells → after.said ≡ before.said) → (IsTrue before.tells → after.complained ≡ before.complained)
-      → after.tells ≡ before.tells → after.faults ≡ before.faults ++ load_faults {T = T} name (Err fault)
-      → Loads gave names role before after (brought role (Some (Err fault)))
-  loads_err T loads.Failed from told listed held said complained tells failed = loads_so (Err loads.Failed) from told listed held said complained tells failed
-  loads_err T loads.TooLong from told listed held said complained tells failed = loads_so (Err loads.TooLong) from told listed held said complained tells failed
-  loads_err T loads.NoMemory from told (inl listed) held said complained tells failed = loads_so (Err loads.NoMemory) from told listed held said complained tells failed
-  loads_err T loads.NoMemory from told (inr still) held said complained tells failed = loads_not still
+-- one that was refused, as the shelf says it of its answer
+pub loads_err : (T : Type 0) (names : Role → List ℕ) (role : Role) (name : List ℕ) (before after : World) (fault : LoadFault) → name ≡ names role
+    → (IsTrue before.tells → Agrees (before.held name) (Some (Err fault))) → after.calls ≡ before.calls ++ shelf.Loaded name MOST_FILE_BYTES (Err fault) ∷ []
+    → (IsTrue before.tells → after.held ≡ before.held) → (IsTrue before.tells → after.said ≡ before.said) → (IsTrue before.tells → after.complained ≡ before.complained)
+    → after.tells ≡ before.tells → after.faults ≡ before.faults ++ load_faults {T = T} name (Err fault)
+    → Loads names role before after (brought role (Some (Err fault)))
+loads_err T names role name before after loads.Failed same = loads_so names role name before after (Err loads.Failed) same
+loads_err T names role name before after loads.TooLong same = loads_so names role name before after (Err loads.TooLong) same
+loads_err T names role name before after loads.NoMemory same = loads_so names role name before after (Err loads.NoMemory) same
 
 -- what code answers without a call is why the reading half is refused, and it adds no failed call
 abbrev pub Quits : {T U : Type 0} → Result T Refusal → Result U Refusal → Type 0
@@ -138,35 +116,57 @@ brought_ok role (Some (Err loads.TooLong)) bytes h = cc
 brought_ok role (Some (Err loads.NoMemory)) bytes h = cc
 
 -- after a load that was refused nothing is asked for
-refused_asked : {M : Type 0} (takes : M → Role → List ℕ → Result M Trouble) (state : M) (role : Role) (given : Loaded) (refusal : Refusal) (more : M → List Role)
-    → brought role given ≡ Err refusal → asked_from role given (taken takes state role given) more ≡ loaded_role role given
-refused_asked takes state role None refusal more h = refl
-refused_asked takes state role (Some (Ok found)) refusal more h = cc
-refused_asked takes state role (Some (Err loads.Failed)) refusal more h = refl
-refused_asked takes state role (Some (Err loads.TooLong)) refusal more h = refl
-refused_asked takes state role (Some (Err loads.NoMemory)) refusal more h = refl
+refused_asked : {M : Type 0} (takes : M → Role → List ℕ → Result M Trouble) (state : M) (role : Role) (gave : Result (List ℕ) LoadFault) (refusal : Refusal) (more : M → List FileLoaded)
+    → brought role (Some gave) ≡ Err refusal → asked_from role (Some gave) (taken takes state role (Some gave)) more ≡ record { role = role; gave = gave } ∷ []
+refused_asked takes state role (Ok found) refusal more h = cc
+refused_asked takes state role (Err loads.Failed) refusal more h = refl
+refused_asked takes state role (Err loads.TooLong) refusal more h = refl
+refused_asked takes state role (Err loads.NoMemory) refusal more h = refl
 
-onward_none : {M : Type 0} (v : Result M Refusal) (more : M → List Role) → ((next : M) → more next ≡ []) → onward v more ≡ []
+onward_none : {M : Type 0} (v : Result M Refusal) (more : M → List FileLoaded) → ((next : M) → more next ≡ []) → onward v more ≡ []
 onward_none (Ok next) more each = each next
 onward_none (Err refusal) more each = refl
 
-module _ {M T : Type 0} (gave : List ℕ → Result (List ℕ) LoadFault → Type 0) (takes : M → Role → List ℕ → Result M Trouble) (stops : M → Option Trouble) (gives : M → T → Type 0) (names : Role → List ℕ) where
+-- a load that gave no bytes is what the answer is refused for
+pub end_as : (T : Type 0) (answer : Result T Refusal) {files other : List FileLoaded} → files ≡ other → EndAtFaults files answer → EndAtFaults other answer
+end_as T answer same ends = let E : List FileLoaded → Type 0 = λ l. EndAtFaults {T = T} l answer in subst E same ends
+
+refused_is : (role : Role) (gave : Result (List ℕ) LoadFault) (refusal : Refusal) → Err refusal ≡ brought role (Some gave) → IfErr gave (λ fault. refusal ≡ unloaded role fault)
+refused_is role (Ok bytes) refusal is = tt
+refused_is role (Err loads.Failed) refusal is = cc
+refused_is role (Err loads.TooLong) refusal is = cc
+refused_is role (Err loads.NoMemory) refusal is = cc
+
+one_end : (T : Type 0) (role : Role) (gave : Result (List ℕ) LoadFault) (refusal : Refusal) → Err refusal ≡ brought role (Some gave) → EndAtFaults {T = T} (record { role = role; gave = gave } ∷ []) (Err refusal)
+one_end T role gave refusal is = (refused_is role gave refusal is, tt)
+
+given_end : {T : Type 0} (role : Role) (gave : Result (List ℕ) LoadFault) (bytes : List ℕ) (rest : List FileLoaded) (answer : Result T Refusal) → Some gave ≡ Some (Ok bytes) → EndAtFaults rest answer → EndAtFaults (record { role = role; gave = gave } ∷ rest) answer
+given_end role (Ok found) bytes rest answer is others = (tt, others)
+given_end role (Err fault) bytes rest answer is others = cc
+
+-- and so where the answer is refused for the same, or nothing is loaded in vain
+pub ends_through : {T U : Type 0} (files : List FileLoaded) (answer : Result T Refusal) (other : Result U Refusal) → ((refusal : Refusal) → IsRefused refusal answer → IsRefused refusal other) → EndAtFaults files answer → EndAtFaults files other
+ends_through [] answer other through ends = tt
+ends_through (file ∷ files) answer other through ends = (if_err file.gave ends.0, ends_through files answer other through ends.1)
+  where
+    if_err : (gave : Result (List ℕ) LoadFault) → IfErr gave (λ fault. IsRefused (unloaded file.role fault) answer) → IfErr gave (λ fault. IsRefused (unloaded file.role fault) other)
+    if_err (Ok bytes) h = tt
+    if_err (Err fault) h = through (unloaded file.role fault) h
+
+module _ {M T : Type 0} (takes : M → Role → List ℕ → Result M Trouble) (stops : M → Option Trouble) (gives : M → T → Type 0) (names : Role → List ℕ) where
   -- all files are taken
-  pub reads_end : (state : M) (world : World) (answer : T) → IsOkAnd (stopped (stops state) state) (λ found. gives found answer) → Reads gave takes stops gives names state [] world world (Ok answer)
+  pub reads_end : (state : M) (world : World) (answer : T) → IsOkAnd (stopped (stops state) state) (λ found. gives found answer) → Reads takes stops gives names state [] world world (Ok answer)
   reads_end state world answer comes = record {
     given = none_given;
-    from = λ role. tt;
     told = λ t role. tt;
     cause = comes;
-    listed = λ t. sym (append-nil world.calls);
+    unloaded = tt;
+    listed = sym (append-nil world.calls);
     untouched = λ t. record { held = refl; said = refl };
     quiet = λ t. refl;
     tells = refl;
     failed = sym (append-nil world.faults);
   }
-
-  from_with : (role : Role) (here : Loaded) (given : Given) → IfSome here (gave (names role)) → ((other : Role) → IfSome (given other) (gave (names other))) → (other : Role) → IfSome (given_with role here given other) (gave (names other))
-  from_with role here given = given_each (λ r g. IfSome g (gave (names r))) role here given
 
   told_with : (before middle : World) (role : Role) (here : Loaded) (given : Given)
       → Agrees (before.held (names role)) here → middle.held ≡ before.held → ((other : Role) → Agrees (middle.held (names other)) (given other))
@@ -192,20 +192,22 @@ module _ {M T : Type 0} (gave : List ℕ → Result (List ℕ) LoadFault → Typ
 
   -- the first load was refused
   pub reads_unloaded : (state : M) (role : Role) (rest : List Role) (before after : World) (refusal : Refusal)
-      → IsTrue (are_distinct (role ∷ rest)) → Loads gave names role before after (Err refusal) → Reads gave takes stops gives names state (role ∷ rest) before after (Err refusal)
+      → IsTrue (are_distinct (role ∷ rest)) → Loads names role before after (Err refusal) → Reads takes stops gives names state (role ∷ rest) before after (Err refusal)
   reads_unloaded state role rest before after refusal distinct load =
       let apart = (and_parts (not (is_among role rest)) (are_distinct rest) distinct).0 in
-      let C : Result (List ℕ) Refusal → Type 0 = λ a. Quits (brought role load.given) a in
-      let quit : Halts (refusal_in (brought role load.given)) refusal = subst C (sym load.is) (brought_quits role load.given) in
+      let here : Loaded = Some load.gave in
+      let C : Result (List ℕ) Refusal → Type 0 = λ a. Quits (brought role here) a in
+      let quit : Halts (refusal_in (brought role here)) refusal = subst C (sym load.is) (brought_quits role here) in
       let V : Result M Refusal → Type 0 = λ v. Halts (refusal_in v) refusal in
-      let more : M → List Role = λ next. asked takes next rest none_given in
+      let more : M → List FileLoaded = λ next. asked takes next rest none_given in
+      let asks = asked_first state role rest here none_given apart ∙ refused_asked takes state role load.gave refusal more (sym load.is) in
       record {
-        given = given_with role load.given none_given;
-        from = from_with role load.given none_given load.from (λ other. tt);
-        told = λ t. told_with before before role load.given none_given (load.told t) refl (λ other. tt);
-        cause = subst V (sym (reached_first state role rest load.given none_given apart))
-            (halts_bind (taken takes state role load.given) (λ next. reached takes stops next rest none_given) refusal (halts_bind (brought role load.given) (λ bytes. troubled (takes state role bytes)) refusal quit));
-        listed = λ t. load.listed t ∙ ap (λ l. before.calls ++ load_calls names l) (sym (asked_first state role rest load.given none_given apart ∙ refused_asked takes state role load.given refusal more (sym load.is)));
+        given = given_with role here none_given;
+        told = λ t. told_with before before role here none_given (load.told t) refl (λ other. tt);
+        cause = subst V (sym (reached_first state role rest here none_given apart))
+            (halts_bind (taken takes state role here) (λ next. reached takes stops next rest none_given) refusal (halts_bind (brought role here) (λ bytes. troubled (takes state role bytes)) refusal quit));
+        unloaded = end_as T (Err refusal) (sym asks) (one_end T role load.gave refusal load.is);
+        listed = load.listed ∙ ap (λ l. before.calls ++ load_calls names l) (sym asks);
         untouched = load.untouched;
         quiet = load.quiet;
         tells = load.tells;
@@ -214,23 +216,24 @@ module _ {M T : Type 0} (gave : List ℕ → Result (List ℕ) LoadFault → Typ
 
   -- the mode refused the first file, or found no memory for it
   pub reads_untaken : (state : M) (role : Role) (rest : List Role) (before after : World) (bytes : List ℕ) (trouble : Trouble)
-      → IsTrue (are_distinct (role ∷ rest)) → Loads gave names role before after (Ok bytes) → Answers (takes state role bytes) (Err trouble) → Reads gave takes stops gives names state (role ∷ rest) before after (troubled (Err trouble))
+      → IsTrue (are_distinct (role ∷ rest)) → Loads names role before after (Ok bytes) → Answers (takes state role bytes) (Err trouble) → Reads takes stops gives names state (role ∷ rest) before after (troubled (Err trouble))
   reads_untaken state role rest before after bytes trouble distinct load took =
       let apart = (and_parts (not (is_among role rest)) (are_distinct rest) distinct).0 in
-      let here : load.given ≡ Some (Ok bytes) = brought_ok role load.given bytes (sym load.is) in
+      let here : Loaded = Some load.gave in
+      let is : here ≡ Some (Ok bytes) = brought_ok role here bytes (sym load.is) in
       let V : Result M Refusal → Type 0 = λ v. Halts (refusal_in v) (refusal_of trouble) in
       let W : Loaded → Type 0 = λ g. Halts (refusal_in (taken takes state role g)) (refusal_of trouble) in
-      let more : M → List Role = λ next. asked takes next rest none_given in
-      let asks : asked_from role load.given (taken takes state role load.given) more ≡ loaded_role role load.given =
-      let Q : Loaded → Type 0 = λ g. asked_from role g (taken takes state role g) more ≡ loaded_role role g in
-      subst Q (sym here) (ap (λ l. role ∷ l) (onward_none (troubled (takes state role bytes)) more (λ next. asked_none takes next rest))) in
+      let more : M → List FileLoaded = λ next. asked takes next rest none_given in
+      let first : FileLoaded = record { role = role; gave = load.gave } in
+      let none : onward (taken takes state role here) more ≡ [] = onward_none (taken takes state role here) more (λ next. asked_none takes next rest) in
+      let asks = asked_first state role rest here none_given apart ∙ ap (λ l. first ∷ l) none in
       record {
-        given = given_with role load.given none_given;
-        from = from_with role load.given none_given load.from (λ other. tt);
-        told = λ t. told_with before before role load.given none_given (load.told t) refl (λ other. tt);
-        cause = subst V (sym (reached_first state role rest load.given none_given apart))
-            (halts_bind (taken takes state role load.given) (λ next. reached takes stops next rest none_given) (refusal_of trouble) (subst W (sym here) (answers_quit (takes state role bytes) (Err trouble) took)));
-        listed = λ t. load.listed t ∙ ap (λ l. before.calls ++ load_calls names l) (sym (asked_first state role rest load.given none_given apart ∙ asks));
+        given = given_with role here none_given;
+        told = λ t. told_with before before role here none_given (load.told t) refl (λ other. tt);
+        cause = subst V (sym (reached_first state role rest here none_given apart))
+            (halts_bind (taken takes state role here) (λ next. reached takes stops next rest none_given) (refusal_of trouble) (subst W (sym is) (answers_quit (takes state role bytes) (Err trouble) took)));
+        unloaded = end_as T (troubled (Err trouble)) (sym asks) (given_end {T = T} role load.gave bytes [] (troubled (Err trouble)) is tt);
+        listed = load.listed ∙ ap (λ l. before.calls ++ load_calls names l) (sym asks);
         untouched = load.untouched;
         quiet = load.quiet;
         tells = load.tells;
@@ -239,24 +242,24 @@ module _ {M T : Type 0} (gave : List ℕ → Result (List ℕ) LoadFault → Typ
 
   -- the mode took the first file, and the rest followed
   pub reads_on : (state next : M) (role : Role) (rest : List Role) (before middle after : World) (bytes : List ℕ) (answer : Result T Refusal)
-      → IsTrue (are_distinct (role ∷ rest)) → Loads gave names role before middle (Ok bytes) → takes state role bytes ≡ Ok next → Reads gave takes stops gives names next rest middle after answer → Reads gave takes stops gives names state (role ∷ rest) before after answer
+      → IsTrue (are_distinct (role ∷ rest)) → Loads names role before middle (Ok bytes) → takes state role bytes ≡ Ok next → Reads takes stops gives names next rest middle after answer → Reads takes stops gives names state (role ∷ rest) before after answer
   reads_on state next role rest before middle after bytes answer distinct load took reads =
       let apart = (and_parts (not (is_among role rest)) (are_distinct rest) distinct).0 in
-      let here : load.given ≡ Some (Ok bytes) = brought_ok role load.given bytes (sym load.is) in
+      let here : Loaded = Some load.gave in
+      let is : here ≡ Some (Ok bytes) = brought_ok role here bytes (sym load.is) in
       let V : Result M Refusal → Type 0 = λ v. Comes gives v answer in
-      let first : taken takes state role load.given ≡ Ok next = ap (taken takes state role) here ∙ ap troubled took in
-      let whole = reached_first state role rest load.given reads.given apart ∙ ap (λ v. v >>= λ n. reached takes stops n rest reads.given) first in
-      let more : M → List Role = λ n. asked takes n rest reads.given in
-      let asks : asked_from role load.given (taken takes state role load.given) more ≡ role ∷ more next = ap (λ g. asked_from role g (taken takes state role load.given) more) here ∙ ap (λ v. role ∷ onward v more) first in
+      let first : taken takes state role here ≡ Ok next = ap (taken takes state role) is ∙ ap troubled took in
+      let whole = reached_first state role rest here reads.given apart ∙ ap (λ v. v >>= λ n. reached takes stops n rest reads.given) first in
+      let more : M → List FileLoaded = λ n. asked takes n rest reads.given in
+      let file : FileLoaded = record { role = role; gave = load.gave } in
+      let asks = asked_first state role rest here reads.given apart ∙ ap (λ v. file ∷ onward v more) first in
       record {
-        given = given_with role load.given reads.given;
-        from = from_with role load.given reads.given load.from reads.from;
-        told = λ t. told_with before middle role load.given reads.given (load.told t) (load.untouched t).held (reads.told (tells_on before.tells middle.tells load.tells t));
+        given = given_with role here reads.given;
+        told = λ t. told_with before middle role here reads.given (load.told t) (load.untouched t).held (reads.told (tells_on before.tells middle.tells load.tells t));
         cause = subst V (sym whole) reads.cause;
-        listed = λ t.
-            joined before.calls middle.calls after.calls (one_call calls.Load (names role)) (load_calls names (more next))
-            (load.listed t ∙ ap (λ g. before.calls ++ load_calls names (loaded_role role g)) here) (reads.listed (tells_on before.tells middle.tells load.tells t))
-            ∙ ap (λ l. before.calls ++ load_calls names l) (sym (asked_first state role rest load.given reads.given apart ∙ asks));
+        unloaded = end_as T answer (sym asks) (given_end {T = T} role load.gave bytes (more next) answer is reads.unloaded);
+        listed = joined before.calls middle.calls after.calls (shelf.Loaded (names role) MOST_FILE_BYTES load.gave ∷ []) (load_calls names (more next)) load.listed reads.listed
+            ∙ ap (λ l. before.calls ++ load_calls names l) (sym asks);
         untouched = λ t. untouched_twice before middle after (load.untouched t) (reads.untouched (tells_on before.tells middle.tells load.tells t));
         quiet = λ t. reads.quiet (tells_on before.tells middle.tells load.tells t) ∙ load.quiet t;
         tells = reads.tells ∙ load.tells;

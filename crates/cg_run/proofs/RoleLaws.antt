@@ -7,7 +7,7 @@ use Rattle.cg_run.specs.declared.role.Role.TheVariants as roles
 use Rattle.cg_run.specs.declared.refusal.Refusal.{Refusal}
 use Rattle.cg_run.specs.Roles.{is_among, is_role, role_number}
 use Rattle.cg_run.specs.declared.refusal.Trouble.{Trouble}
-use Rattle.cg_run.specs.Verdict.{Given, Loaded, asked, asked_from, onward, reached, taken, ◌>>=◌}
+use Rattle.cg_run.specs.Verdict.{FileLoaded, Given, Loaded, asked, asked_from, onward, reached, taken, ◌>>=◌}
 
 role_at : ℕ → Role
 role_at zero = roles.Library
@@ -61,13 +61,13 @@ pub bind_same : {A B : Type 0} (v : Result A Refusal) (f g : A → Result B Refu
 bind_same (Ok x) f g same = same x
 bind_same (Err refusal) f g same = refl
 
-onward_same : {M : Type 0} (v : Result M Refusal) (f g : M → List Role) → ((x : M) → f x ≡ g x) → onward v f ≡ onward v g
+onward_same : {M : Type 0} (v : Result M Refusal) (f g : M → List FileLoaded) → ((x : M) → f x ≡ g x) → onward v f ≡ onward v g
 onward_same (Ok x) f g same = same x
 onward_same (Err refusal) f g same = refl
 
-pub asked_same : {M : Type 0} (role : Role) (gave : Loaded) (v : Result M Refusal) (f g : M → List Role) → ((x : M) → f x ≡ g x) → asked_from role gave v f ≡ asked_from role gave v g
+pub asked_same : {M : Type 0} (role : Role) (gave : Loaded) (v : Result M Refusal) (f g : M → List FileLoaded) → ((x : M) → f x ≡ g x) → asked_from role gave v f ≡ asked_from role gave v g
 asked_same role None v f g same = refl
-asked_same role (Some gave) v f g same = ap (λ l. role ∷ l) (onward_same v f g same)
+asked_same role (Some gave) v f g same = let first : FileLoaded = record { role = role; gave = gave } in ap (λ l. first ∷ l) (onward_same v f g same)
 
 -- a file that is not among the rest does not count there
 pub reached_with : {M : Type 0} (takes : M → Role → List ℕ → Result M Trouble) (stops : M → Option Trouble) (state : M) (rest : List Role) (role : Role) (gave : Loaded) (given : Given)

@@ -1,15 +1,15 @@
 -- The writes of a run, from its stores and its say.
-use Rattle.std.proofs.Common.{◌≡◌, ◌≢◌, inl, inr, append_assoc, ℕ, Bool, true, false, ◌||◌, IsTrue, List, [], ◌∷◌, ◌++◌, Option}
+use Rattle.std.proofs.Common.{◌≡◌, ◌≢◌, ℕ, Bool, true, false, ◌||◌, IsTrue, List, [], ◌∷◌, ◌++◌, Option}
 use Rattle.std.proofs.Common.{Some, Result, Ok, Err, refl, sym, ◌∙◌, ap, subst, if◌then◌else◌}
 use Rattle.std.specs.Prelude.{IfErr, OnOk}
 use Rattle.std.specs.Str.{bytes_eq}
 use Rattle.std.proofs.lemmas.List.{append-nil}
 use Rattle.std.proofs.lemmas.Slice.Eq.{bytes_eq-Decides}
 use Rattle.cg_shelf.specs.World.{World}
-use Rattle.cg_shelf.specs.Shelf.{Appends, AppendsFront, Lists, SameBut, call_faults, one_call}
-use Rattle.cg_shelf.specs.declared.faults.Call.{Call}
+use Rattle.cg_shelf.specs.Asked.{Asked, Calls}
+use Rattle.cg_shelf.specs.Asked as shelf
+use Rattle.cg_shelf.specs.Shelf.{Appends, AppendsFront, SameBut, call_faults}
 use Rattle.cg_shelf.specs.declared.faults.Call.TheVariants as calls
-use Rattle.cg_shelf.specs.declared.faults.CallMade.{CallMade}
 use Rattle.cg_shelf.specs.declared.faults.StoreFault.{StoreFault}
 use Rattle.cg_shelf.specs.declared.faults.StoreFault.TheVariants as stores
 use Rattle.cg_run.specs.declared.writing.Output.{Output}
@@ -19,11 +19,11 @@ use Rattle.cg_run.specs.declared.refusal.Refusal.TheVariants as refusals
 use Rattle.cg_run.specs.declared.refusal.Step.{Step}
 use Rattle.cg_run.specs.declared.refusal.Step.TheVariants as steps
 use Rattle.cg_run.specs.declared.role.Role.{Role}
-use Rattle.cg_run.specs.Refusal.{outcome_faults, step_of}
+use Rattle.cg_run.specs.Refusal.{outcome_faults, step_of, write_answer, write_fault}
 use Rattle.cg_run.specs.Roles.{is_role}
-use Rattle.cg_run.specs.Writes.{CallsAt, HasStep, IsUpTo, LeavesAt, WriteCalls, WriteLeaves, Writes, is_stored, put_under, puts}
+use Rattle.cg_run.specs.Writes.{CallsAt, HasStep, LeavesAt, WriteCalls, WriteLeaves, Writes, is_stored, put_under, puts}
 use Rattle.cg_run.specs.Writes.{store_calls}
-use Rattle.cg_run.specs.inner.Steps.{Holds, OneCall, OpenStep, SaidBy, SaysAll, StoreCalls, StoreLeaves, StoredAll, StoresAll}
+use Rattle.cg_run.specs.inner.Steps.{Holds, OpenStep, SaidBy, SaysAll, StoreCalls, StoreLeaves, StoredAll, StoresAll}
 use Rattle.cg_run.specs.inner.Steps.{StoresAt, StoresOne, StoresStep}
 use Rattle.cg_run.proofs.RoleLaws.{is_its_role}
 use Rattle.cg_run.proofs.ReadHalf.{faults_join, joined, tells_on}
@@ -44,34 +44,16 @@ put_case held after name bytes n false is stands others = others (λ e. let t : 
 put_stands : (held after : List ℕ → Option (List ℕ)) (name bytes : List ℕ) → after name ≡ Some bytes → SameBut name held after → (n : List ℕ) → after n ≡ put_under held name bytes n
 put_stands held after name bytes stands others n = put_case held after name bytes n (bytes_eq n name) refl stands (others n)
 
--- the call of a write, as it is listed
-made_of : {T : Type 0} (call : Call) (name : List ℕ) (before after : World) (answer : Result T StoreFault) → Lists call name before after answer → List CallMade
-made_of call name before after (Ok x) lists = one_call call name
-made_of call name before after (Err stores.Failed) lists = one_call call name
-made_of call name before after (Err stores.NoMemory) (inl lists) = one_call call name
-made_of call name before after (Err stores.NoMemory) (inr still) = []
-
-made_listed : {T : Type 0} (call : Call) (name : List ℕ) (before after : World) (answer : Result T StoreFault) (lists : Lists call name before after answer)
-    → IsTrue before.tells → after.calls ≡ before.calls ++ made_of call name before after answer lists
-unfolding made_of
-made_listed call name before after (Ok x) lists = lists
-made_listed call name before after (Err stores.Failed) lists = lists
-made_listed call name before after (Err stores.NoMemory) (inl lists) = lists
-made_listed call name before after (Err stores.NoMemory) (inr still) = λ t. ap (λ w. w.calls) still ∙ sym (append-nil before.calls)
-
 -- what a store answers, as part of a run
 abbrev pub as_store : {T : Type 0} → Role → Result T StoreFault → Result T Refusal
 as_store role (Ok x) = Ok x
 as_store role (Err stores.Failed) = Err (refusals.Store role)
 as_store role (Err stores.NoMemory) = Err (refusals.NoMemory (steps.Storing role))
 
-store_by : {T : Type 0} (role : Role) (name : List ℕ) (before after : World) (answer : Result T StoreFault) (lists : Lists calls.Store name before after answer)
-    → OneCall (one_call calls.Store name) (as_store role answer) (made_of calls.Store name before after answer lists)
-unfolding made_of
-store_by role name before after (Ok x) lists = refl
-store_by role name before after (Err stores.Failed) lists = inl refl
-store_by role name before after (Err stores.NoMemory) (inl lists) = inl refl
-store_by role name before after (Err stores.NoMemory) (inr still) = inr refl
+store_called : (role : Role) (answer : Result (Unit {0}) StoreFault) → answer ≡ write_answer (as_store role answer)
+store_called role (Ok x) = refl
+store_called role (Err stores.Failed) = refl
+store_called role (Err stores.NoMemory) = refl
 
 store_refused : {T : Type 0} (role : Role) (answer : Result T StoreFault) → IfErr (as_store role answer) (λ refusal. step_of refusal ≡ steps.Storing role)
 store_refused role (Ok x) = tt
@@ -89,21 +71,19 @@ store_faults names role (Err stores.Failed) = refl
 store_faults names role (Err stores.NoMemory) = refl
 
 -- what the shelf says of a store
-pub record StoreDid {T : Type 0} (name bytes : List ℕ) (before after : World) (answer : Result T StoreFault) : Type 0 where
+pub record StoreDid (name bytes : List ℕ) (before after : World) (answer : Result (Unit {0}) StoreFault) : Type 0 where
   pub stored : IsTrue before.tells → OnOk answer (after.held name ≡ Some bytes)
   pub others : IsTrue before.tells → SameBut name before.held after.held
   pub said : IsTrue before.tells → after.said ≡ before.said
   pub complained : IsTrue before.tells → after.complained ≡ before.complained
   pub tells : after.tells ≡ before.tells
-  pub listed : Lists calls.Store name before after answer
+  pub listed : after.calls ≡ before.calls ++ shelf.Stored name bytes answer ∷ []
   pub failed : after.faults ≡ before.faults ++ call_faults calls.Store name answer
 
-stores_did : {T : Type 0} (names : Role → List ℕ) (text : Text) (before after : World) (answer : Result T StoreFault) → StoreDid (names text.role) text.bytes before after answer → StoresOne names text before after (as_store text.role answer)
+stores_did : (names : Role → List ℕ) (text : Text) (before after : World) (answer : Result (Unit {0}) StoreFault) → StoreDid (names text.role) text.bytes before after answer → StoresOne names text before after (as_store text.role answer)
 stores_did names text before after answer did = record {
   refused = store_refused text.role answer;
-  made = made_of calls.Store (names text.role) before after answer did.listed;
-  by = store_by text.role (names text.role) before after answer did.listed;
-  listed = made_listed calls.Store (names text.role) before after answer did.listed;
+  listed = did.listed ∙ ap (λ a. before.calls ++ shelf.Stored (names text.role) text.bytes a ∷ []) (store_called text.role answer);
   stored = λ t. store_holds text.role (after.held (names text.role)) text.bytes answer (did.stored t);
   others = did.others;
   said = did.said;
@@ -112,7 +92,7 @@ stores_did names text before after answer did = record {
   failed = did.failed ∙ ap (λ f. before.faults ++ f) (store_faults names text.role answer);
 }
 
-pub stores_one : {T : Type 0} (names : Role → List ℕ) (text : Text) (name bytes : List ℕ) (before after : World) (answer : Result T StoreFault) → name ≡ names text.role → bytes ≡ text.bytes → StoreDid name bytes before after answer → StoresOne names text before after (as_store text.role answer)
+pub stores_one : (names : Role → List ℕ) (text : Text) (name bytes : List ℕ) (before after : World) (answer : Result (Unit {0}) StoreFault) → name ≡ names text.role → bytes ≡ text.bytes → StoreDid name bytes before after answer → StoresOne names text before after (as_store text.role answer)
 stores_one names text name bytes before after answer name_is bytes_is did =
     let P : List ℕ → Type 0 = λ n. StoreDid n bytes before after answer in
     let Q : List ℕ → Type 0 = λ b. StoreDid (names text.role) b before after answer in
@@ -124,13 +104,10 @@ as_say (Ok x) = Ok x
 as_say (Err stores.Failed) = Err refusals.Say
 as_say (Err stores.NoMemory) = Err (refusals.NoMemory steps.Saying)
 
-say_by : {T : Type 0} (before after : World) (answer : Result T StoreFault) (lists : Lists calls.Say [] before after answer)
-    → OneCall (one_call calls.Say []) (as_say answer) (made_of calls.Say [] before after answer lists)
-unfolding made_of
-say_by before after (Ok x) lists = refl
-say_by before after (Err stores.Failed) lists = inl refl
-say_by before after (Err stores.NoMemory) (inl lists) = inl refl
-say_by before after (Err stores.NoMemory) (inr still) = inr refl
+say_called : (answer : Result (Unit {0}) StoreFault) → answer ≡ write_answer (as_say answer)
+say_called (Ok x) = refl
+say_called (Err stores.Failed) = refl
+say_called (Err stores.NoMemory) = refl
 
 say_steps : {T : Type 0} (answer : Result T StoreFault) → IfErr (as_say answer) (λ refusal. step_of refusal ≡ steps.Saying)
 say_steps (Ok x) = tt
@@ -147,15 +124,13 @@ say_faults names (Ok x) = refl
 say_faults names (Err stores.Failed) = refl
 say_faults names (Err stores.NoMemory) = refl
 
-pub says_one : {T : Type 0} (names : Role → List ℕ) (text bytes : List ℕ) (before after : World) (answer : Result T StoreFault) → bytes ≡ text
+pub says_one : (names : Role → List ℕ) (text bytes : List ℕ) (before after : World) (answer : Result (Unit {0}) StoreFault) → bytes ≡ text
     → (IsTrue before.tells → Appends before.said after.said bytes answer) → (IsTrue before.tells → after.held ≡ before.held) → (IsTrue before.tells → after.complained ≡ before.complained)
-    → after.tells ≡ before.tells → Lists calls.Say [] before after answer → after.faults ≡ before.faults ++ call_faults calls.Say [] answer
+    → after.tells ≡ before.tells → after.calls ≡ before.calls ++ shelf.Said bytes answer ∷ [] → after.faults ≡ before.faults ++ call_faults calls.Say [] answer
     → SaysAll names text before after (as_say answer)
 says_one names text bytes before after answer same said held complained tells listed failed = record {
   refused = say_steps answer;
-  made = made_of calls.Say [] before after answer listed;
-  by = say_by before after answer listed;
-  listed = made_listed calls.Say [] before after answer listed;
+  listed = listed ∙ ap (λ b. before.calls ++ shelf.Said b answer ∷ []) same ∙ ap (λ a. before.calls ++ shelf.Said text a ∷ []) (say_called answer);
   said = λ t. let P : List ℕ → Type 0 = λ b. Appends before.said after.said b answer in say_appends text before.said after.said answer (subst P same (said t));
   held = held;
   complained = complained;
@@ -170,7 +145,7 @@ stores_none names world x = record {
   leaves = λ t. record { held = λ name. refl; said = refl };
   made = [];
   by = refl;
-  listed = λ t. sym (append-nil world.calls);
+  listed = sym (append-nil world.calls);
   quiet = λ t. refl;
   tells = refl;
   failed = sym (append-nil world.faults);
@@ -192,11 +167,12 @@ pub stores_refused : {T U : Type 0} (names : Role → List ℕ) (text : Text) (r
     → StoresOne {T = T} names text before after (Err refusal) → StoresAll {T = U} names (text ∷ rest) before after (Err refusal)
 stores_refused names text rest before after refusal one =
     let P : Step → Type 0 = λ s. OpenStep names (text ∷ rest) s before after in
-    let C : Step → Type 0 = λ s. StoresAt names (text ∷ rest) s one.made in
+    let made : Calls = shelf.Stored (names text.role) text.bytes (Err (write_fault refusal)) ∷ [] in
+    let C : Step → Type 0 = λ s. StoresAt names (text ∷ rest) s (write_fault refusal) made in
     record {
       refused = refused_step text rest (step_of refusal) one.refused;
-      made = one.made;
-      by = subst C (sym one.refused) (record { done = []; here = text; rest = rest; parts = refl; is = refl; up_to = one.by });
+      made = made;
+      by = subst C (sym one.refused) (record { done = []; here = text; rest = rest; parts = refl; is = refl; calls = refl });
       listed = one.listed;
       leaves = λ t. subst P (sym one.refused) (record {
         done = [];
@@ -246,34 +222,34 @@ later_refused : {U : Type 0} (text : Text) (rest : List Text) (answer : Result U
 later_refused text rest (Ok x) h = tt
 later_refused text rest (Err refusal) h = later_step text rest (step_of refusal) h
 
-later_up_to : (first done last made : List CallMade) → IsUpTo done last made → IsUpTo (first ++ done) last (first ++ made)
-later_up_to first done last made (inl whole) = inl (ap (λ l. first ++ l) whole ∙ sym (append_assoc first done last))
-later_up_to first done last made (inr front) = inr (ap (λ l. first ++ l) front)
+-- the call of a store that was made
+abbrev store_call : (Role → List ℕ) → Text → Asked
+store_call names text = shelf.Stored (names text.role) text.bytes (Ok tt)
 
-later_at : (names : Role → List ℕ) (text : Text) (rest : List Text) (step : Step) (made : List CallMade) → StoresAt names rest step made → StoresAt names (text ∷ rest) step (one_call calls.Store (names text.role) ++ made)
-later_at names text rest steps.Reading made there = there
-later_at names text rest steps.Saying made there = there
-later_at names text rest (steps.Storing role) made there = record {
+later_at : (names : Role → List ℕ) (text : Text) (rest : List Text) (step : Step) (fault : StoreFault) (made : Calls) → StoresAt names rest step fault made → StoresAt names (text ∷ rest) step fault (store_call names text ∷ made)
+later_at names text rest steps.Reading fault made there = there
+later_at names text rest steps.Saying fault made there = there
+later_at names text rest (steps.Storing role) fault made there = record {
   done = text ∷ there.done;
   here = there.here;
   rest = there.rest;
   parts = ap (λ l. text ∷ l) there.parts;
   is = there.is;
-  up_to = later_up_to (one_call calls.Store (names text.role)) (store_calls names there.done) (one_call calls.Store (names role)) made there.up_to;
+  calls = ap (λ l. store_call names text ∷ l) there.calls;
 }
 
-later_calls : {U : Type 0} (names : Role → List ℕ) (text : Text) (rest : List Text) (answer : Result U Refusal) (made : List CallMade) → StoreCalls names rest answer made → StoreCalls names (text ∷ rest) answer (one_call calls.Store (names text.role) ++ made)
-later_calls names text rest (Ok x) made by = ap (λ l. one_call calls.Store (names text.role) ++ l) by
-later_calls names text rest (Err refusal) made by = later_at names text rest (step_of refusal) made by
+later_calls : {U : Type 0} (names : Role → List ℕ) (text : Text) (rest : List Text) (answer : Result U Refusal) (made : Calls) → StoreCalls names rest answer made → StoreCalls names (text ∷ rest) answer (store_call names text ∷ made)
+later_calls names text rest (Ok x) made by = ap (λ l. store_call names text ∷ l) by
+later_calls names text rest (Err refusal) made by = later_at names text rest (step_of refusal) (write_fault refusal) made by
 
 pub stores_on : {T U : Type 0} (names : Role → List ℕ) (text : Text) (rest : List Text) (before middle after : World) (x : T) (answer : Result U Refusal)
     → StoresOne names text before middle (Ok x) → StoresAll names rest middle after answer → StoresAll names (text ∷ rest) before after answer
 stores_on names text rest before middle after x answer one all = record {
   refused = later_refused text rest answer all.refused;
   leaves = λ t. later_leaves names text rest before middle after answer (put_stands before.held middle.held (names text.role) text.bytes (one.stored t) (one.others t)) (one.said t) (all.leaves (tells_on before.tells middle.tells one.tells t));
-  made = one_call calls.Store (names text.role) ++ all.made;
+  made = store_call names text ∷ all.made;
   by = later_calls names text rest answer all.made all.by;
-  listed = λ t. joined before.calls middle.calls after.calls (one_call calls.Store (names text.role)) all.made (one.listed t ∙ ap (λ l. before.calls ++ l) one.by) (all.listed (tells_on before.tells middle.tells one.tells t));
+  listed = joined before.calls middle.calls after.calls (store_call names text ∷ []) all.made one.listed all.listed;
   quiet = λ t. all.quiet (tells_on before.tells middle.tells one.tells t) ∙ one.complained t;
   tells = all.tells ∙ one.tells;
   failed = faults_join before.faults middle.faults after.faults (outcome_faults names answer) one.failed all.failed;
@@ -290,17 +266,17 @@ store_leaves names output before after steps.Reading h = absurd h
 store_leaves names output before after (steps.Storing role) h = h
 store_leaves names output before after steps.Saying h = absurd h
 
-store_calls_at : (names : Role → List ℕ) (output : Output) (step : Step) (made : List CallMade) → StoresAt names output.stores step made → CallsAt names output step made
-store_calls_at names output steps.Reading made h = absurd h
-store_calls_at names output (steps.Storing role) made h = h
-store_calls_at names output steps.Saying made h = absurd h
+store_calls_at : (names : Role → List ℕ) (output : Output) (step : Step) (fault : StoreFault) (made : Calls) → StoresAt names output.stores step fault made → CallsAt names output step fault made
+store_calls_at names output steps.Reading fault made h = absurd h
+store_calls_at names output (steps.Storing role) fault made h = h
+store_calls_at names output steps.Saying fault made h = absurd h
 
 pub writes_refused : {T U : Type 0} (names : Role → List ℕ) (output : Output) (before after : World) (refusal : Refusal) → StoresAll {T = T} names output.stores before after (Err refusal) → Writes {T = U} names output before after (Err refusal)
 writes_refused names output before after refusal all = record {
   refused = store_step output (step_of refusal) all.refused;
   leaves = λ t. store_leaves names output before after (step_of refusal) (all.leaves t);
   made = all.made;
-  by = store_calls_at names output (step_of refusal) all.made all.by;
+  by = store_calls_at names output (step_of refusal) (write_fault refusal) all.made all.by;
   listed = all.listed;
   quiet = all.quiet;
   tells = all.tells;
@@ -326,23 +302,22 @@ say_leaves names output before middle after (Err refusal) all step said held =
       said = subst Q all.said said;
     })
 
-say_calls : {U : Type 0} (names : Role → List ℕ) (output : Output) (answer : Result U Refusal) (said : List CallMade)
-    → IfErr answer (λ refusal. step_of refusal ≡ steps.Saying) → OneCall (one_call calls.Say []) answer said → WriteCalls names output answer (store_calls names output.stores ++ said)
-say_calls names output (Ok x) said step by = ap (λ l. store_calls names output.stores ++ l) by
-say_calls names output (Err refusal) said step by =
-    let P : Step → Type 0 = λ s. CallsAt names output s (store_calls names output.stores ++ said) in
-    subst P (sym step) (elim by [
-      | inl whole ↦ inl (ap (λ l. store_calls names output.stores ++ l) whole)
-      | inr none ↦ inr (ap (λ l. store_calls names output.stores ++ l) none ∙ append-nil (store_calls names output.stores))
-    ])
+abbrev wrote_calls : {U : Type 0} → (Role → List ℕ) → Output → Result U Refusal → Calls
+wrote_calls names output answer = store_calls names output.stores ++ shelf.Said output.said (write_answer answer) ∷ []
+
+say_calls : {U : Type 0} (names : Role → List ℕ) (output : Output) (answer : Result U Refusal) → IfErr answer (λ refusal. step_of refusal ≡ steps.Saying) → WriteCalls names output answer (wrote_calls names output answer)
+say_calls names output (Ok x) step = refl
+say_calls names output (Err refusal) step =
+    let P : Step → Type 0 = λ s. CallsAt names output s (write_fault refusal) (store_calls names output.stores ++ shelf.Said output.said (Err (write_fault refusal)) ∷ []) in
+    subst P (sym step) refl
 
 pub writes_said : {T U : Type 0} (names : Role → List ℕ) (output : Output) (before middle after : World) (x : T) (answer : Result U Refusal) → StoresAll names output.stores before middle (Ok x) → SaysAll names output.said middle after answer → Writes names output before after answer
 writes_said names output before middle after x answer all say = record {
   refused = say_refused output answer say.refused;
   leaves = λ t. let u = tells_on before.tells middle.tells all.tells t in say_leaves names output before middle after answer (all.leaves t) say.refused (say.said u) (say.held u);
-  made = store_calls names output.stores ++ say.made;
-  by = say_calls names output answer say.made say.refused say.by;
-  listed = λ t. joined before.calls middle.calls after.calls (store_calls names output.stores) say.made (all.listed t ∙ ap (λ l. before.calls ++ l) all.by) (say.listed (tells_on before.tells middle.tells all.tells t));
+  made = wrote_calls names output answer;
+  by = say_calls names output answer say.refused;
+  listed = joined before.calls middle.calls after.calls (store_calls names output.stores) (shelf.Said output.said (write_answer answer) ∷ []) (all.listed ∙ ap (λ l. before.calls ++ l) all.by) say.listed;
   quiet = λ t. say.complained (tells_on before.tells middle.tells all.tells t) ∙ all.quiet t;
   tells = say.tells ∙ all.tells;
   failed = faults_join before.faults middle.faults after.faults (outcome_faults names answer) all.failed say.failed;

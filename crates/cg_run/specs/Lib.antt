@@ -5,6 +5,7 @@ pub mod Refusal
 pub mod Verdict
 pub mod Reads
 pub mod Writes
+pub mod ByStatus
 pub mod Run
 pub mod Promise
 pub mod inner

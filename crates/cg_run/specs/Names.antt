@@ -1,5 +1,5 @@
 -- The name of each role's file.
-use Rattle.std.specs.Prelude.{ℕ, if◌then◌else◌, List, [], ◌∷◌, map}
+use Rattle.std.specs.Prelude.{ℕ, max, if◌then◌else◌, List, [], ◌∷◌, length, map}
 use Rattle.cg_run.specs.Roles.{is_role}
 use Rattle.cg_run.specs.declared.names.NamedFile.{NamedFile}
 use Rattle.cg_run.specs.declared.names.Names.{Names}
@@ -17,6 +17,11 @@ Files = List File
 abbrev pub file_of : Files → Role → List ℕ
 file_of [] role = []
 file_of (file ∷ files) role = if is_role file.role role then file.name else file_of files role
+
+-- how long the longest name is
+abbrev pub longest_name : Files → ℕ
+longest_name [] = 0
+longest_name (file ∷ files) = max (length file.name) (longest_name files)
 
 -- the names that the program keeps, as the words that they are
 abbrev pub file_seen : NamedFile → File

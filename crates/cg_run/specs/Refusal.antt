@@ -1,9 +1,11 @@
 -- What a refusal means: status, line of complaint, failed calls, and how far the run had come. One line a kind.
-use Rattle.std.specs.Prelude.{ℕ, List, [], ◌∷◌, ◌++◌, codes, Result, Ok, Err}
+use Rattle.std.specs.Prelude.{◌≤◌, ℕ, Bool, if◌then◌else◌, IsTrue, List, [], ◌∷◌, ◌++◌, codes, length, Result, Ok, Err, ⊤}
 use Rattle.cg_limit.specs.declared.Limit.{Limit}
 use Rattle.cg_limit.specs.declared.Limit.TheVariants as limits
 use Rattle.cg_shelf.specs.declared.faults.Call.TheVariants as calls
 use Rattle.cg_shelf.specs.declared.faults.Fault.{Fault}
+use Rattle.cg_shelf.specs.declared.faults.StoreFault.{StoreFault}
+use Rattle.cg_shelf.specs.declared.faults.StoreFault.TheVariants as stores
 use Rattle.cg_shelf.specs.Shelf.{one_fault}
 use Rattle.cg_run.specs.declared.refusal.Owner.{Owner}
 use Rattle.cg_run.specs.declared.refusal.Owner.TheVariants as owners
@@ -86,3 +88,27 @@ step_of (refusals.Load role) = steps.Reading
 step_of (refusals.Store role) = steps.Storing role
 step_of refusals.Say = steps.Saying
 step_of (refusals.NoMemory step) = step
+
+-- what the shelf answered to the write that was refused: it failed, or found no memory
+abbrev pub write_fault : Refusal → StoreFault
+write_fault (refusals.NoMemory step) = stores.NoMemory
+write_fault refusal = stores.Failed
+
+abbrev pub write_answer : {T : Type 0} → Result T Refusal → Result (Unit {0}) StoreFault
+write_answer (Ok x) = Ok tt
+write_answer (Err refusal) = Err (write_fault refusal)
+
+-- the refusal that is complained of: where there is no memory for its line, that of want of memory
+abbrev pub shown_as : Bool → Refusal → Refusal
+shown_as has_line refusal = if has_line then refusal else refusals.NoMemory (step_of refusal)
+
+-- The line of a refusal is there, since room for it was made before the first load, but for that of a content, which may be
+-- longer: there may be no memory for it.
+abbrev pub HasLine : Refusal → Bool → Type 0
+HasLine (refusals.Content content) has_line = ⊤
+HasLine refusal has_line = IsTrue has_line
+
+-- so much room is enough for the line of a refusal that is none of a content
+abbrev pub HasRoom : (Role → List ℕ) → ℕ → Refusal → Type 0
+HasRoom names room (refusals.Content content) = ⊤
+HasRoom names room refusal = length (complaint_text names refusal) ≤ room

@@ -1,5 +1,6 @@
 -- What a mode comes to, found by reading alone, from what its loads gave.
-use Rattle.std.specs.Prelude.{◌≡◌, ℕ, List, [], ◌∷◌, Option, None, Some, Result, Ok, Err, IsOkAnd, ⊤}
+use Rattle.std.specs.Prelude.{◌≡◌, ℕ, List, [], ◌∷◌, Option, None, Some, Result, Ok, Err, IfErr, IsOkAnd, ⊤}
+use Rattle.std.specs.List.{AllByRecursion}
 use Rattle.cg_limit.specs.declared.Limit.TheVariants as limits
 use Rattle.cg_shelf.specs.declared.faults.LoadFault.{LoadFault}
 use Rattle.cg_shelf.specs.declared.faults.LoadFault.TheVariants as loads
@@ -59,16 +60,21 @@ abbrev pub reached : {M : Type 0} → (M → Role → List ℕ → Result M Trou
 reached takes stops state [] given = stopped (stops state) state
 reached takes stops state (role ∷ rest) given = taken takes state role (given role) >>= λ next. reached takes stops next rest given
 
+-- a file that was loaded, and what its load gave
+pub record FileLoaded : Type 0 where
+  pub role : Role
+  pub gave : Result (List ℕ) LoadFault
+
 -- the files that are loaded until then, in order
-abbrev pub onward : {M : Type 0} → Result M Refusal → (M → List Role) → List Role
+abbrev pub onward : {M : Type 0} → Result M Refusal → (M → List FileLoaded) → List FileLoaded
 onward (Ok next) more = more next
 onward (Err refusal) more = []
 
-abbrev pub asked_from : {M : Type 0} → Role → Loaded → Result M Refusal → (M → List Role) → List Role
+abbrev pub asked_from : {M : Type 0} → Role → Loaded → Result M Refusal → (M → List FileLoaded) → List FileLoaded
 asked_from role None next more = []
-asked_from role (Some gave) next more = role ∷ onward next more
+asked_from role (Some gave) next more = record { role = role; gave = gave } ∷ onward next more
 
-abbrev pub asked : {M : Type 0} → (M → Role → List ℕ → Result M Trouble) → M → List Role → Given → List Role
+abbrev pub asked : {M : Type 0} → (M → Role → List ℕ → Result M Trouble) → M → List Role → Given → List FileLoaded
 asked takes state [] given = []
 asked takes state (role ∷ rest) given =
     asked_from role (given role) (taken takes state role (given role)) (λ next. asked takes next rest given)
@@ -78,11 +84,12 @@ abbrev pub refusal_in : {T : Type 0} → Result T Refusal → Option Refusal
 refusal_in (Ok found) = None
 refusal_in (Err refusal) = Some refusal
 
--- A mode, as what a run does with it: which files it loads, in order, as far as it comes; for what they are refused, if they
--- are; and which outputs they come to where nothing is refused. There may be more than one, of which a run puts out one.
+-- A mode, as what a run does with it: which files it loads, in order, and as far as it comes, each with what its load gave; for
+-- what they are refused, if they are; and which outputs they come to where nothing is refused. There may be more than one, of
+-- which a run puts out one.
 pub record Task : Type 1 where
   pub loads : List Role
-  pub asks : Given → List Role
+  pub asks : Given → List FileLoaded
   pub refused : Given → Option Refusal
   pub comes : Given → Output → Type 0
 
@@ -115,7 +122,8 @@ Concludes stops gives (Err (troubles.Content content)) = stops ≡ Some (trouble
 Concludes stops gives (Err (troubles.Limit limit)) = stops ≡ Some (troubles.Limit limit)
 Concludes stops gives (Err troubles.NoMemory) = ⊤
 
--- why a run is refused before its first write: for what its files are refused, or memory was wanting
+-- Why a run is refused before its first write: for what its files are refused, or memory was wanting. Want of memory has no
+-- witness: a run may end so before any load, and behind any load that gave bytes.
 abbrev pub Halts : Option Refusal → Refusal → Type 0
 Halts refused (refusals.Content content) = refused ≡ Some (refusals.Content content)
 Halts refused (refusals.Limit limit) = refused ≡ Some (refusals.Limit limit)
@@ -128,6 +136,19 @@ Halts refused (refusals.NoMemory step) = step ≡ steps.Reading
 abbrev pub Comes : {M T : Type 0} → (M → T → Type 0) → Result M Refusal → Result T Refusal → Type 0
 Comes gives v (Ok output) = IsOkAnd v (λ found. gives found output)
 Comes gives v (Err refusal) = Halts (refusal_in v) refusal
+
+-- Each load that gave no bytes is what the answer is refused for: no memory is asked for behind it.
+abbrev pub IsRefused : {T : Type 0} → Refusal → Result T Refusal → Type 0
+IsRefused refusal (Ok found) = ⊥
+IsRefused refusal (Err other) = other ≡ refusal
+
+abbrev pub unloaded : Role → LoadFault → Refusal
+unloaded role loads.Failed = refusals.Load role
+unloaded role loads.TooLong = refusals.Limit limits.File
+unloaded role loads.NoMemory = refusals.NoMemory steps.Reading
+
+abbrev pub EndAtFaults : {T : Type 0} → List FileLoaded → Result T Refusal → Type 0
+EndAtFaults files answer = AllByRecursion (λ file. IfErr file.gave (λ fault. IsRefused (unloaded file.role fault) answer)) files
 
 -- what is made of what was found
 abbrev pub found_as : {A B E : Type 0} → (A → B) → Result A E → Result B E

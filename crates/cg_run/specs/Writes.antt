@@ -1,18 +1,19 @@
 -- What the writes of a run do: the stores in order, then the say; the first that is refused ends them.
-use Rattle.std.specs.Prelude.{◌≡◌, ◌≢◌, ◌⊎◌, ℕ, Bool, IsTrue, if◌then◌else◌, List, [], ◌∷◌, ◌++◌, map, Option, Some, Result, Ok}
+use Rattle.std.specs.Prelude.{◌≡◌, ◌≢◌, ℕ, Bool, IsTrue, if◌then◌else◌, List, [], ◌∷◌, ◌++◌, map, Option, Some, Result, Ok}
 use Rattle.std.specs.Prelude.{Err, IfErr, ⊤}
 use Rattle.std.specs.Str.{bytes_eq}
 use Rattle.cg_shelf.specs.World.{World}
-use Rattle.cg_shelf.specs.Shelf.{AppendsFront, one_call}
-use Rattle.cg_shelf.specs.declared.faults.Call.TheVariants as calls
-use Rattle.cg_shelf.specs.declared.faults.CallMade.{CallMade}
+use Rattle.cg_shelf.specs.Asked.{Calls}
+use Rattle.cg_shelf.specs.Asked as shelf
+use Rattle.cg_shelf.specs.Shelf.{AppendsFront}
+use Rattle.cg_shelf.specs.declared.faults.StoreFault.{StoreFault}
 use Rattle.cg_run.specs.declared.writing.Output.{Output}
 use Rattle.cg_run.specs.declared.writing.Text.{Text}
 use Rattle.cg_run.specs.declared.refusal.Refusal.{Refusal}
 use Rattle.cg_run.specs.declared.refusal.Step.{Step}
 use Rattle.cg_run.specs.declared.refusal.Step.TheVariants as steps
 use Rattle.cg_run.specs.declared.role.Role.{Role}
-use Rattle.cg_run.specs.Refusal.{outcome_faults, step_of}
+use Rattle.cg_run.specs.Refusal.{outcome_faults, step_of, write_fault}
 use Rattle.cg_run.specs.Roles.{is_among}
 use Rattle.cg_run.specs.Reads.{Untouched}
 
@@ -24,10 +25,9 @@ abbrev pub puts : (Role → List ℕ) → List Text → (List ℕ → Option (Li
 puts names [] held = held
 puts names (text ∷ rest) held = puts names rest (put_under held (names text.role) text.bytes)
 
--- the calls that store these texts
-abbrev pub store_calls : (Role → List ℕ) → List Text → List CallMade
-store_calls names [] = []
-store_calls names (text ∷ rest) = one_call calls.Store (names text.role) ++ store_calls names rest
+-- the calls that store these texts, each of which was made
+abbrev pub store_calls : (Role → List ℕ) → List Text → Calls
+store_calls names texts = map (λ text. shelf.Stored (names text.role) text.bytes (Ok tt)) texts
 
 -- a text of this role is among those to be stored
 abbrev pub is_stored : Role → List Text → Bool
@@ -60,29 +60,25 @@ LeavesAt names output steps.Reading before after = Untouched before after
 LeavesAt names output (steps.Storing role) before after = OpenAt names output.stores role before after
 LeavesAt names output steps.Saying before after = SaidInPart names output before after
 
--- these calls were made, and then at most this one
-abbrev pub IsUpTo : List CallMade → List CallMade → List CallMade → Type 0
-IsUpTo done last made = (made ≡ done ++ last) ⊎ (made ≡ done)
-
--- the texts before that of this role were stored, each once and in order, and then this one at most once
-pub record StoresUpTo (names : Role → List ℕ) (texts : List Text) (role : Role) (made : List CallMade) : Type 0 where
+-- the texts before that of this role were stored, each once and in order, and then this one was refused
+pub record StoresUpTo (names : Role → List ℕ) (texts : List Text) (role : Role) (fault : StoreFault) (made : Calls) : Type 0 where
   pub done : List Text
   pub here : Text
   pub rest : List Text
   pub parts : texts ≡ done ++ here ∷ rest
   pub is : here.role ≡ role
-  pub up_to : IsUpTo (store_calls names done) (one_call calls.Store (names role)) made
+  pub calls : made ≡ store_calls names done ++ shelf.Stored (names role) here.bytes (Err fault) ∷ []
 
 -- The calls of the writes of an output, by how far they came: the texts are stored in order, each once, and then the text
--- is said once.
-abbrev pub CallsAt : (Role → List ℕ) → Output → Step → List CallMade → Type 0
-CallsAt names output steps.Reading made = made ≡ []
-CallsAt names output (steps.Storing role) made = StoresUpTo names output.stores role made
-CallsAt names output steps.Saying made = IsUpTo (store_calls names output.stores) (one_call calls.Say []) made
+-- is said once. The last of them is the one that the shelf refused, with its answer.
+abbrev pub CallsAt : (Role → List ℕ) → Output → Step → StoreFault → Calls → Type 0
+CallsAt names output steps.Reading fault made = made ≡ []
+CallsAt names output (steps.Storing role) fault made = StoresUpTo names output.stores role fault made
+CallsAt names output steps.Saying fault made = made ≡ store_calls names output.stores ++ shelf.Said output.said (Err fault) ∷ []
 
-abbrev pub WriteCalls : {T : Type 0} → (Role → List ℕ) → Output → Result T Refusal → List CallMade → Type 0
-WriteCalls names output (Ok x) made = made ≡ store_calls names output.stores ++ one_call calls.Say []
-WriteCalls names output (Err refusal) made = CallsAt names output (step_of refusal) made
+abbrev pub WriteCalls : {T : Type 0} → (Role → List ℕ) → Output → Result T Refusal → Calls → Type 0
+WriteCalls names output (Ok x) made = made ≡ store_calls names output.stores ++ shelf.Said output.said (Ok tt) ∷ []
+WriteCalls names output (Err refusal) made = CallsAt names output (step_of refusal) (write_fault refusal) made
 
 -- the writes of an output come to this step
 abbrev pub HasStep : Output → Step → Type 0
@@ -99,9 +95,9 @@ pub record Writes {T : Type 0} (names : Role → List ℕ) (output : Output) (be
     (answer : Result T Refusal) : Type 0 where
   pub refused : IfErr answer (λ refusal. HasStep output (step_of refusal))
   pub leaves : IsTrue before.tells → WriteLeaves names output before after answer
-  pub made : List CallMade
+  pub made : Calls
   pub by : WriteCalls names output answer made
-  pub listed : IsTrue before.tells → after.calls ≡ before.calls ++ made
+  pub listed : after.calls ≡ before.calls ++ made
   pub quiet : IsTrue before.tells → after.complained ≡ before.complained
   pub tells : after.tells ≡ before.tells
   pub failed : after.faults ≡ before.faults ++ outcome_faults names answer

@@ -1,8 +1,8 @@
 //! The run: what a mode does, over the shelf.
 
 ghost use Rattle.std.specs.Prelude.{IsTrue};
-ghost use Rattle.cg_run.specs.Promise.{Ended, EndsAs, Gains, KeepsOthers, LeavesShelf, UnlessFails, held_files};
-ghost use Rattle.cg_run.specs.Reads.{Gave, Reads};
+ghost use Rattle.cg_run.specs.Promise.{EndsAs, KeepsOthers, UnlessFails, held_files};
+ghost use Rattle.cg_run.specs.Reads.{Reads};
 ghost use Rattle.cg_run.specs.Names.{name_of};
 ghost use Rattle.cg_run.specs.Roles.{are_distinct};
 ghost use Rattle.cg_run.specs.Run.{Runs};
@@ -14,7 +14,7 @@ use crate::reading::collect;
 use crate::refusal::Refusal;
 use crate::role::Role;
 use crate::status::Status;
-use crate::writing::{Output, put_out};
+use crate::writing::{Output, make_line, no_memory, put_out};
 use cg_shelf::Shelf;
 use std::alloc::Global;
 
@@ -28,18 +28,9 @@ pub fn drive<S: Shelf, M: Mode>(
 ) -> Status
     requires distinct { IsTrue (are_distinct loads.now) }
 
-    // What the run did: its calls in order, what each file gave, the one output that it put out, and what stands.
-    ensures runs { Runs (Gave S.gives) (task_of M.takes M.stops M.gives mode loads.now) (name_of names.now) (S.world shelf.old) (S.world shelf.new) result }
-
-    // How it ended, with the cause, the line of complaint and the failed calls.
-    ensures ended { Ended (Gave S.gives) (task_of M.takes M.stops M.gives mode loads.now) (name_of names.now) (S.world shelf.old) (S.world shelf.new) result }
-
-    // What stands, by the status.
-    ensures stands { IsTrue (S.world shelf.old).tells
-        → LeavesShelf (task_of M.takes M.stops M.gives mode loads.now) (name_of names.now) (S.world shelf.old) (S.world shelf.new) result }
-
-    // At most one failed call besides that of the complaint, and which, by the status.
-    ensures gains { Gains (task_of M.takes M.stops M.gives mode loads.now) (name_of names.now) (S.world shelf.old) (S.world shelf.new) result }
+    // What the run did: what each load gave, the one output that it put out and why, its calls in order with what they answered,
+    // how it ended, what it complained of, and what stands.
+    ensures runs { Runs (task_of M.takes M.stops M.gives mode loads.now) (name_of names.now) (S.world shelf.old) (S.world shelf.new) result }
 
     // Names that are not those of stored files keep what they held.
     ensures others { IsTrue (S.world shelf.old).tells
@@ -60,10 +51,18 @@ fn run<S: Shelf, M: Mode>(
     mode: M,
 ) -> Status
     requires distinct { IsTrue (are_distinct loads.now) }
-    ensures { Runs (Gave S.gives) (task_of M.takes M.stops M.gives mode loads.now) (name_of names.now) (S.world shelf.old) (S.world shelf.new) result }
+    ensures { Runs (task_of M.takes M.stops M.gives mode loads.now) (name_of names.now) (S.world shelf.old) (S.world shelf.new) result }
 {
-    let found = read(alloc, shelf, names, loads, mode);
-    put_out(alloc, shelf, names, found)
+    match make_line(alloc, names) {
+        Ok(line) => {
+            let found = read(alloc, shelf, names, loads, mode);
+            put_out(shelf, names, found, line)
+        }
+        Err(_) => {
+            drop(mode);
+            no_memory(shelf)
+        }
+    }
 }
 
 /// Loads the files of these roles, has the mode take them, in order, and asks it what is to be put out.
@@ -75,7 +74,7 @@ fn read<S: Shelf, M: Mode>(
     mode: M,
 ) -> Result<Output, Refusal>
     requires distinct { IsTrue (are_distinct loads.now) }
-    ensures { Reads (Gave S.gives) M.takes M.stops M.gives (name_of names.now) mode loads.now (S.world shelf.old) (S.world shelf.new) result }
+    ensures { Reads M.takes M.stops M.gives (name_of names.now) mode loads.now (S.world shelf.old) (S.world shelf.new) result }
 {
     let found = collect(alloc, shelf, names, loads, mode)?;
     Ok(found.finish(alloc)?)

@@ -34,4 +34,4 @@ pub use reading::collect;
 pub use refusal::{Content, Owner, Refusal, Step, Trouble};
 pub use role::Role;
 pub use status::Status;
-pub use writing::{Finish, Output, Text, complain, put_out};
+pub use writing::{Finish, Output, Text, complain, make_line, no_memory, put_out};

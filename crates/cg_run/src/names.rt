@@ -1,7 +1,7 @@
 //! The names of the files of a run.
 
-ghost use Rattle.std.specs.Prelude.{◌≡◌, map, IfOk};
-ghost use Rattle.cg_run.specs.Names.{file_seen, files_of, name_of};
+ghost use Rattle.std.specs.Prelude.{◌≡◌, ◌<◌, ◌^◌, length, map, max, IfOk};
+ghost use Rattle.cg_run.specs.Names.{file_seen, files_of, longest_name, name_of};
 ghost use Rattle.cg_run.specs.Roles.{is_role};
 
 use crate::role::Role;
@@ -46,12 +46,11 @@ impl Names<'_> {
     }
 
     /// How long the longest name is.
-    pub fn longest(&self) -> usize {
-        self.files
-            .iter()
-            .map(|file| file.name.len())
-            .max()
-            .unwrap_or(0)
+    pub fn longest(&self) -> usize
+        ensures longest { result ≡ longest_name (files_of self.now) }
+        ensures within { result < 2 ^ 63 }
+    {
+        longest_of(self.files.as_slice())
     }
 }
 
@@ -60,4 +59,28 @@ fn is_of(file: &NamedFile<'_>, role: Role) -> bool
     ensures { result ≡ is_role file.now.role role }
 {
     file.role == role
+}
+
+/// How long the longest name of these files is.
+fn longest_of(files: &[NamedFile<'_>]) -> usize
+    ensures longest { result ≡ longest_name (map file_seen files.now) }
+    ensures within { result < 2 ^ 63 }
+{
+    match files.split_first() {
+        None => 0,
+        Some((file, rest)) => greater(length_of(file.name), longest_of(rest)),
+    }
+}
+
+fn length_of(name: &str) -> usize
+    ensures length { result ≡ length name.now }
+    ensures within { result < 2 ^ 63 }
+{
+    name.len()
+}
+
+fn greater(a: usize, b: usize) -> usize
+    ensures { result ≡ max a b }
+{
+    if a < b { b } else { a }
 }

@@ -3,7 +3,7 @@
 ghost use Rattle.std.specs.Prelude.{◌≡◌, ◌++◌, IsTrue};
 ghost use Rattle.cg_run.specs.Names.{name_of};
 ghost use Rattle.cg_run.specs.Roles.{are_distinct};
-ghost use Rattle.cg_run.specs.Reads.{Collects, Gave};
+ghost use Rattle.cg_run.specs.Reads.{Collects};
 ghost use Rattle.cg_run.specs.inner.Steps.{Loads};
 
 use crate::mode::Reader;
@@ -26,7 +26,7 @@ pub fn collect<S: Shelf, M: Reader>(
     reader: M,
 ) -> Result<M, Refusal>
     requires distinct { IsTrue (are_distinct loads.now) }
-    ensures { Collects (Gave S.gives) M.takes (name_of names.now) reader loads.now (S.world shelf.old) (S.world shelf.new) result }
+    ensures { Collects M.takes (name_of names.now) reader loads.now (S.world shelf.old) (S.world shelf.new) result }
 {
     match loads.split_first() {
         None => Ok(reader),
@@ -45,7 +45,7 @@ fn load<S: Shelf>(
     names: &Names<'_>,
     role: Role,
 ) -> Result<Seq<u8>, Refusal>
-    ensures { Loads (Gave S.gives) (name_of names.now) role (S.world shelf.old) (S.world shelf.new) result }
+    ensures { Loads (name_of names.now) role (S.world shelf.old) (S.world shelf.new) result }
 {
     let mut bytes = Vec::new(alloc);
     match shelf.load(names.name_of(role), MOST_FILE_BYTES, &mut bytes) {

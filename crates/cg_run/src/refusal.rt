@@ -1,6 +1,6 @@
 //! Why a run was not done: a refusal is of a kind.
 
-ghost use Rattle.std.specs.Prelude.{◌≡◌, ◌++◌, [], OnOk};
+ghost use Rattle.std.specs.Prelude.{◌≡◌, ◌<◌, ◌≤◌, ◌+◌, ◌++◌, [], length, vec_capacity, OnErr, OnOk};
 ghost use Rattle.cg_run.specs.Names.{name_of};
 ghost use Rattle.cg_run.specs.Refusal.{status_of, owner_status, limit_text, reason_text, complaint_text};
 
@@ -129,10 +129,11 @@ impl Refusal {
         }
     }
 
-    /// The whole line that is complained of this refusal.
+    /// The whole line that is complained of this refusal. There is no memory for it only where the list had not the room.
     pub fn complain_into(&self, names: &Names<'_>, line: &mut Vec<u8>) -> Result<(), AllocError>
         requires { line.old.items ≡ [] }
-        ensures { OnOk result (line.new.items ≡ complaint_text (name_of names.now) self.now) }
+        ensures whole { OnOk result (line.new.items ≡ complaint_text (name_of names.now) self.now) }
+        ensures full { OnErr result (vec_capacity line.old < length (complaint_text (name_of names.now) self.now)) }
     {
         line.extend_from_slice(b"clockgate: ")?;
         self.push_reason(names, line)?;
@@ -141,7 +142,9 @@ impl Refusal {
     }
 
     fn push_reason(&self, names: &Names<'_>, line: &mut Vec<u8>) -> Result<(), AllocError>
-        ensures { OnOk result (line.new.items ≡ line.old.items ++ reason_text (name_of names.now) self.now) }
+        ensures pushed { OnOk result (line.new.items ≡ line.old.items ++ reason_text (name_of names.now) self.now) }
+        ensures room { vec_capacity line.old ≤ vec_capacity line.new }
+        ensures full { OnErr result (vec_capacity line.old < length line.old.items + length (reason_text (name_of names.now) self.now)) }
     {
         match self {
             Refusal::Content(content) => line.extend_from_slice(content.text.as_slice()),
@@ -155,7 +158,9 @@ impl Refusal {
 }
 
 fn push_named(line: &mut Vec<u8>, text: &[u8], name: &str) -> Result<(), AllocError>
-    ensures { OnOk result (line.new.items ≡ line.old.items ++ (text.now ++ name.now)) }
+    ensures pushed { OnOk result (line.new.items ≡ line.old.items ++ (text.now ++ name.now)) }
+    ensures room { vec_capacity line.old ≤ vec_capacity line.new }
+    ensures full { OnErr result (vec_capacity line.old < length line.old.items + length (text.now ++ name.now)) }
 {
     line.extend_from_slice(text)?;
     line.extend_from_slice(name.as_bytes())

@@ -1,11 +1,13 @@
 //! What a mode puts out, and the writing half of a run: what reading came to is written, the stores in order and then the say, of
 //! which the first that is refused ends them; or one line of complaint tells why not.
 
-ghost use Rattle.std.specs.Prelude.{◌≡◌, []};
-ghost use Rattle.cg_run.specs.Names.{name_of};
+ghost use Rattle.std.specs.Prelude.{◌≡◌, ◌≤◌, ◌+◌, [], codes, length, vec_capacity, IfOk};
+ghost use Rattle.cg_run.specs.Names.{files_of, longest_name, name_of};
+ghost use Rattle.cg_run.specs.Refusal.{HasRoom, complaint_line, complaint_text, status_of};
 ghost use Rattle.cg_run.specs.Run.{Complains, PutsOut, Refuses, Tries};
 ghost use Rattle.cg_run.specs.Writes.{Writes};
 ghost use Rattle.cg_run.specs.inner.Steps.{StoresAll, StoresOne, SaysAll};
+ghost use Rattle.cg_run.specs.declared.refusal.Refusal.{Refusal};
 
 use crate::names::Names;
 use crate::refusal::{Refusal, Step};
@@ -13,7 +15,7 @@ use crate::role::Role;
 use crate::status::Status;
 use cg_list::Seq;
 use cg_shelf::{Shelf, StoreFault};
-use std::alloc::Global;
+use std::alloc::{AllocError, Global};
 
 /// How a run ends whose files were read and whose output was written.
 #[derive(Clone, Copy, Debug, PartialEq, Eq)]
@@ -54,34 +56,52 @@ pub struct Output {
     pub finish: Finish,
 }
 
+/// An empty line with room for the complaint of any refusal but that of a content, which may be longer.
+///
+/// It is made before the first load: behind it want of memory comes of reading, of the line of a content and of the shelf alone.
+pub fn make_line(alloc: Global, names: &Names<'_>) -> Result<Vec<u8>, AllocError>
+    ensures empty { IfOk result (λ line. line.items ≡ []) }
+    ensures room { IfOk result (λ line. (refusal : Refusal) → HasRoom (name_of names.now) (vec_capacity line) refusal) }
+{
+    let mut line = Vec::new(alloc);
+    line.reserve(longest_line(names))?;
+    Ok(line)
+}
+
+/// Complains that there is no memory.
+pub fn no_memory<S: Shelf>(shelf: &mut S) -> Status
+    ensures { Complains (complaint_line (codes "no memory")) Status.NoMemory (S.world shelf.old) (S.world shelf.new) result }
+{
+    complain(shelf, Status::NoMemory, b"clockgate: no memory\n")
+}
+
 /// Writes the output that reading came to, and ends as it says; or complains why there is none, or why it is not written.
 pub fn put_out<S: Shelf>(
-    alloc: Global,
     shelf: &mut S,
     names: &Names<'_>,
     found: Result<Output, Refusal>,
+    line: Vec<u8>,
 ) -> Status
+    requires empty { line.items ≡ [] }
+    requires room { (refusal : Refusal) → HasRoom (name_of names.now) (vec_capacity line) refusal }
     ensures { PutsOut (name_of names.now) found (S.world shelf.old) (S.world shelf.new) result }
 {
-    let mut line = Vec::new(alloc);
-    match try_to_write(shelf, names, found, &mut line) {
+    let mut line = line;
+    match try_to_write(shelf, names, found) {
         Ok(finish) => finish.status(),
         Err(refusal) => refuse(shelf, names, &refusal, &mut line),
     }
 }
 
-/// Writes the output. Before the first write the line has room for the complaint of any write.
+/// Writes the output.
 fn try_to_write<S: Shelf>(
     shelf: &mut S,
     names: &Names<'_>,
     found: Result<Output, Refusal>,
-    line: &mut Vec<u8>,
 ) -> Result<Finish, Refusal>
-    ensures empty { line.new.items ≡ line.old.items }
-    ensures tries { Tries (name_of names.now) found (S.world shelf.old) (S.world shelf.new) result }
+    ensures { Tries (name_of names.now) found (S.world shelf.old) (S.world shelf.new) result }
 {
     let output = found?;
-    line.reserve(longest_line(names))?;
     write(shelf, names, &output)?;
     Ok(output.finish)
 }
@@ -126,24 +146,34 @@ fn say<S: Shelf>(shelf: &mut S, names: &Names<'_>, bytes: &Seq<u8>) -> Result<()
     }
 }
 
-/// No complaint of a write is longer.
-fn longest_line(names: &Names<'_>) -> usize {
-    names.longest().saturating_add(64)
+/// How much longer than the longest name the line of a refusal may be, if it is none of a content.
+const LINE_ROOM: usize = 64;
+
+/// How long the line of a refusal may be, if it is none of a content.
+#[tactic(auto, using(crate::proofs::LineRoom::room_of))]
+fn longest_line(names: &Names<'_>) -> usize
+    ensures longest { result ≡ longest_name (files_of names.now) + LINE_ROOM }
+    ensures room { (refusal : Refusal) → HasRoom (name_of names.now) result refusal }
+{
+    names.longest() + LINE_ROOM
 }
 
-/// Complains of a refusal, or of want of memory where there is none for its line.
+/// Complains of a refusal, or of want of memory where the line has not the room and there is none for it: that of a content.
 fn refuse<S: Shelf>(
     shelf: &mut S,
     names: &Names<'_>,
     refusal: &Refusal,
     line: &mut Vec<u8>,
 ) -> Status
-    requires { line.old.items ≡ [] }
-    ensures { Refuses (name_of names.now) refusal.now (S.world shelf.old) (S.world shelf.new) result }
+    requires empty { line.old.items ≡ [] }
+    requires room { HasRoom (name_of names.now) (vec_capacity line.old) refusal.now }
+    ensures refuses { Refuses (name_of names.now) refusal.now (S.world shelf.old) (S.world shelf.new) result }
+    ensures roomy { length (complaint_text (name_of names.now) refusal.now) ≤ vec_capacity line.old
+        → Complains (complaint_text (name_of names.now) refusal.now) (status_of refusal.now) (S.world shelf.old) (S.world shelf.new) result }
 {
     match refusal.complain_into(names, line) {
         Ok(()) => complain(shelf, refusal.status(), line.as_slice()),
-        Err(_) => complain(shelf, Status::NoMemory, b"clockgate: no memory\n"),
+        Err(_) => no_memory(shelf),
     }
 }
 

@@ -1,3 +1,5 @@
+pub mod Asked
+pub mod Answered
 pub mod World
 pub mod Shelf
 pub mod MemShelf

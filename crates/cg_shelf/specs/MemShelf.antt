@@ -1,9 +1,12 @@
 -- What a shelf in memory is seen as.
-use Rattle.std.specs.Prelude.{◌≡◌, ℕ, Bool, true, false, nat_eq, List, Option, Some, Result, Ok, Err, ⊤}
+use Rattle.std.specs.Prelude.{◌≡◌, ◌⊎◌, ℕ, Bool, true, false, nat_eq, List, [], ◌∷◌, ◌++◌, Option, Some, Result, Ok, Err, ⊤}
 use Rattle.std.specs.Option.{option_map}
 use Rattle.std.specs.List.{list_any}
 use Rattle.std.specs.BTreeMap.{get_by_text}
 use Rattle.cg_shelf.specs.World.{World}
+use Rattle.cg_shelf.specs.declared.faults.Call.{Call}
+use Rattle.cg_shelf.specs.declared.faults.Call.TheVariants.{Load}
+use Rattle.cg_shelf.specs.declared.faults.CallMade.{CallMade}
 use Rattle.cg_shelf.specs.declared.faults.LoadFault.{LoadFault}
 use Rattle.cg_shelf.specs.declared.faults.LoadFault.TheVariants as loads
 use Rattle.cg_shelf.specs.declared.faults.StoreFault.{StoreFault}
@@ -21,14 +24,27 @@ world_of shelf = record {
   held = held_by shelf;
   said = shelf.said.items;
   complained = shelf.complained.items;
-  calls = shelf.made.items;
+  calls = shelf.calls.listed;
   faults = shelf.faults.items;
 }
 
--- A load gives no bytes but those that are held.
-abbrev pub GivesHeld : Option (List ℕ) → Result (List ℕ) LoadFault → Type 0
-GivesHeld held (Ok bytes) = held ≡ Some bytes
-GivesHeld held (Err fault) = ⊤
+-- The calls that it lists for its user, by kind and name. One that found no memory for its entry is not there.
+abbrev pub made_by : MemShelf → List CallMade
+made_by shelf = shelf.made.items
+
+abbrev pub one_call : Call → List ℕ → List CallMade
+one_call call name = record { call = call; name = name } ∷ []
+
+abbrev pub ListsLoad : {T : Type 0} → List ℕ → List CallMade → List CallMade → Result T LoadFault → Type 0
+ListsLoad name before after (Ok x) = after ≡ before ++ one_call Load name
+ListsLoad name before after (Err loads.Failed) = after ≡ before ++ one_call Load name
+ListsLoad name before after (Err loads.TooLong) = after ≡ before ++ one_call Load name
+ListsLoad name before after (Err loads.NoMemory) = (after ≡ before ++ one_call Load name) ⊎ (after ≡ before)
+
+abbrev pub Lists : {T : Type 0} → Call → List ℕ → List CallMade → List CallMade → Result T StoreFault → Type 0
+Lists call name before after (Ok x) = after ≡ before ++ one_call call name
+Lists call name before after (Err stores.Failed) = after ≡ before ++ one_call call name
+Lists call name before after (Err stores.NoMemory) = (after ≡ before ++ one_call call name) ⊎ (after ≡ before)
 
 -- How many calls were made, and the numbers of the calls that are to fail.
 abbrev pub count_of : MemShelf → ℕ

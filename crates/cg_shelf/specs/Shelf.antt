@@ -1,10 +1,7 @@
 -- What the four calls of a shelf answer and change.
-use Rattle.std.specs.Prelude.{◌≡◌, ◌≢◌, ◌⊎◌, ℕ, ◌<◌, IsTrue, List, [], ◌∷◌, ◌++◌, length, Option, Some, Result, Ok, Err, IsSomeAnd}
-use Rattle.std.specs.Prelude.{⊤}
-use Rattle.cg_shelf.specs.World.{World}
+use Rattle.std.specs.Prelude.{◌≡◌, ◌≢◌, ℕ, ◌<◌, List, [], ◌∷◌, ◌++◌, length, Option, Some, Result, Ok, Err, IsSomeAnd, ⊤}
 use Rattle.cg_shelf.specs.declared.faults.Call.{Call}
 use Rattle.cg_shelf.specs.declared.faults.Call.TheVariants.{Load}
-use Rattle.cg_shelf.specs.declared.faults.CallMade.{CallMade}
 use Rattle.cg_shelf.specs.declared.faults.Fault.{Fault}
 use Rattle.cg_shelf.specs.declared.faults.LoadFault.{LoadFault}
 use Rattle.cg_shelf.specs.declared.faults.LoadFault.TheVariants as loads
@@ -57,23 +54,3 @@ SameBut stored old new = (name : List ℕ) → name ≢ stored → new name ≡ 
 abbrev pub load_given : {T : Type 0} → List ℕ → Result T LoadFault → Result (List ℕ) LoadFault
 load_given into (Ok x) = Ok into
 load_given into (Err fault) = Err fault
-
--- The list of one call that was made.
-abbrev pub one_call : Call → List ℕ → List CallMade
-one_call call name = record { call = call; name = name } ∷ []
-
--- The list of calls grew by this one.
-abbrev pub Listed : Call → List ℕ → World → World → Type 0
-Listed call name before after = IsTrue before.tells → after.calls ≡ before.calls ++ one_call call name
-
--- A call is listed, whatever it answers. One that found no memory before it began is not, and changed nothing.
-abbrev pub ListsLoad : {T : Type 0} → List ℕ → World → World → Result T LoadFault → Type 0
-ListsLoad name before after (Ok x) = Listed Load name before after
-ListsLoad name before after (Err loads.Failed) = Listed Load name before after
-ListsLoad name before after (Err loads.TooLong) = Listed Load name before after
-ListsLoad name before after (Err loads.NoMemory) = Listed Load name before after ⊎ (after ≡ before)
-
-abbrev pub Lists : {T : Type 0} → Call → List ℕ → World → World → Result T StoreFault → Type 0
-Lists call name before after (Ok x) = Listed call name before after
-Lists call name before after (Err stores.Failed) = Listed call name before after
-Lists call name before after (Err stores.NoMemory) = Listed call name before after ⊎ (after ≡ before)

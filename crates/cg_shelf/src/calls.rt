@@ -5,24 +5,19 @@ use crate::faults::{LoadFault, StoreFault};
 /// Where files and texts come from and go to.
 ///
 /// A shelf is seen as a [`World`](../specs/World.antt): whether it tells what it holds, the bytes under
-/// each name, what was said and complained, the calls that were made, and those that failed. The list of failed
-/// calls is always exact and only grows: a call that answers `Failed` adds one entry, its own call and name, and
-/// any other answer adds none. What is said of held bytes, texts and the calls that were made holds where the
-/// shelf tells. Each call is listed there once; one that found no memory before it began is not, and changed
-/// nothing.
-///
-/// `gives` is what a load of a name may give. A caller that knows no more of the shelf can show it of no bytes
-/// but those that a load gave.
+/// each name, what was said and complained, the calls that were made, and those that failed. Both lists of calls
+/// are always exact and only grow. Each call adds itself to those that were made, with what it was asked for and
+/// what it answered, so that a load is listed with the bytes that it gave. A call that answers `Failed` adds one
+/// entry to those that failed, its own call and name, and any other answer adds none. What is said of held bytes
+/// and texts holds where the shelf tells.
 pub trait Shelf {
-    ghost use Rattle.std.specs.Prelude.{◌≡◌, ◌++◌, ◌≤◌, ℕ, List, [], Some, Result, length, IsTrue, OnOk, OnErr};
+    ghost use Rattle.std.specs.Prelude.{◌≡◌, ◌++◌, ◌∷◌, ◌≤◌, [], Some, length, IsTrue, OnOk, OnErr};
     ghost use Rattle.cg_shelf.specs.World.{World};
-    ghost use Rattle.cg_shelf.specs.Shelf.{LoadAnswers, Appends, Lists, ListsLoad, SameBut, call_faults, load_faults, load_given};
+    ghost use Rattle.cg_shelf.specs.Asked.{Loaded, Stored, Said, Complained};
+    ghost use Rattle.cg_shelf.specs.Shelf.{LoadAnswers, Appends, SameBut, call_faults, load_faults, load_given};
     ghost use Rattle.cg_shelf.specs.declared.faults.Call.TheVariants.{Store, Say, Complain};
-    ghost use Rattle.cg_shelf.specs.declared.faults.LoadFault.{LoadFault};
 
     ghost world: { Self → World };
-
-    ghost gives: { Self → List ℕ → Result (List ℕ) LoadFault → Type 0 };
 
     /// Reads the file `name` into `into`, which is emptied first.
     ///
@@ -37,8 +32,8 @@ pub trait Shelf {
         ensures same_complained { IsTrue (world self.old).tells
             → (world self.new).complained ≡ (world self.old).complained }
         ensures same_tells { (world self.new).tells ≡ (world self.old).tells }
-        ensures given { gives self.old name.now (load_given into.new.items result) }
-        ensures listed { ListsLoad name.now (world self.old) (world self.new) result }
+        ensures listed { (world self.new).calls
+            ≡ (world self.old).calls ++ Loaded name.now limit (load_given into.new.items result) ∷ [] }
         ensures failed { (world self.new).faults ≡ (world self.old).faults ++ load_faults name.now result };
 
     /// Puts the bytes under `name`, in place of what was there.
@@ -53,7 +48,7 @@ pub trait Shelf {
         ensures same_complained { IsTrue (world self.old).tells
             → (world self.new).complained ≡ (world self.old).complained }
         ensures same_tells { (world self.new).tells ≡ (world self.old).tells }
-        ensures listed { Lists Store name.now (world self.old) (world self.new) result }
+        ensures listed { (world self.new).calls ≡ (world self.old).calls ++ Stored name.now bytes.now result ∷ [] }
         ensures failed { (world self.new).faults
             ≡ (world self.old).faults ++ call_faults Store name.now result };
 
@@ -67,7 +62,7 @@ pub trait Shelf {
         ensures same_complained { IsTrue (world self.old).tells
             → (world self.new).complained ≡ (world self.old).complained }
         ensures same_tells { (world self.new).tells ≡ (world self.old).tells }
-        ensures listed { Lists Say [] (world self.old) (world self.new) result }
+        ensures listed { (world self.new).calls ≡ (world self.old).calls ++ Said bytes.now result ∷ [] }
         ensures failed { (world self.new).faults ≡ (world self.old).faults ++ call_faults Say [] result };
 
     /// Adds the bytes to what was complained.
@@ -79,7 +74,7 @@ pub trait Shelf {
         ensures same_held { IsTrue (world self.old).tells → (world self.new).held ≡ (world self.old).held }
         ensures same_said { IsTrue (world self.old).tells → (world self.new).said ≡ (world self.old).said }
         ensures same_tells { (world self.new).tells ≡ (world self.old).tells }
-        ensures listed { Lists Complain [] (world self.old) (world self.new) result }
+        ensures listed { (world self.new).calls ≡ (world self.old).calls ++ Complained bytes.now result ∷ [] }
         ensures failed { (world self.new).faults
             ≡ (world self.old).faults ++ call_faults Complain [] result };
 }

@@ -6,6 +6,7 @@ ghost use Rattle.cg_shelf.specs.declared.faults.Call.TheVariants.{Store, Say, Co
 ghost use Rattle.std.specs.Io.KnownBytes.{Appends};
 ghost use Rattle.cg_shelf.specs.Transfer.{AppendsPart};
 
+use crate::call_log::{Answered, CallLog};
 use crate::calls::Shelf;
 use crate::faults::{Call, Fault, FileName, LoadFault, StoreFault};
 use std::alloc::{AllocError, Global};
@@ -18,26 +19,30 @@ use std::{fs, io};
 /// The writer is the standard error that the program was started with: opened anew it would have a place of its own
 /// in a file, and others that write there would write over the complaint.
 ///
-/// It tells nothing of content, since nothing can be proved of what the system holds. It keeps the list of
-/// its failed calls. Every error of the system fails the call, an interrupted read or write among them. That it
+/// It tells nothing of content, since nothing can be proved of what the system holds. What its calls were asked for and
+/// answered is exact, so the bytes that a load gave are known; that these are what the system holds no clause says. It
+/// keeps the list of its failed calls. Every error of the system fails the call, an interrupted read or write among them. That it
 /// reads and writes whole files is proved of its loops over any reader and writer.
 #[derive(Drop)]
 pub struct DirShelf<R: Runtime, E: Write + Drop> {
     rt: R,
     errors: E,
     alloc: Global,
+    calls: CallLog,
     faults: Vec<Fault>,
 }
 
 impl<R: Runtime, E: Write + Drop> DirShelf<R, E> {
-    /// A shelf over this runtime that complains to this writer. It has failed in nothing yet.
+    /// A shelf over this runtime that complains to this writer. It was asked for nothing yet, and has failed in nothing.
     pub fn new(rt: R, errors: E, alloc: Global) -> DirShelf<R, E>
-        ensures { result.faults.items ≡ [] }
+        ensures calls { result.calls.listed ≡ [] }
+        ensures faults { result.faults.items ≡ [] }
     {
         DirShelf {
             rt,
             errors,
             alloc,
+            calls: CallLog::new(),
             faults: Vec::new(alloc),
         }
     }
@@ -53,6 +58,23 @@ impl<R: Runtime, E: Write + Drop> DirShelf<R, E> {
         read_whole(&mut file, limit, into)
     }
 
+    /// Reads a file into a list that is emptied first, and after a refusal is empty.
+    fn load_file(&mut self, name: &str, limit: u64, into: &mut Vec<u8>) -> Result<(), LoadFault>
+        ensures within { OnOk result (length into.new.items ≤ limit) }
+        ensures refused { OnErr result (into.new.items ≡ []) }
+        ensures failed { self.new.faults.items ≡ self.old.faults.items ++ load_faults name.now result }
+        ensures same_calls { self.new.calls ≡ self.old.calls }
+    {
+        into.clear();
+        match self.read_file(name, limit, into) {
+            Ok(()) => Ok(()),
+            Err(fault) => {
+                into.clear();
+                self.note_load(name, fault)
+            }
+        }
+    }
+
     fn write_file(&self, name: &str, bytes: &[u8]) -> Result<(), StoreFault> {
         match fs::create(&self.rt, name) {
             Ok(mut file) => write_whole(&mut file, bytes),
@@ -64,6 +86,7 @@ impl<R: Runtime, E: Write + Drop> DirShelf<R, E> {
     fn note_load(&mut self, name: &str, fault: LoadFault) -> Result<(), LoadFault>
         ensures failed { self.new.faults.items ≡ self.old.faults.items ++ load_faults name.now result }
         ensures refused { OnOk result ⊥ }
+        ensures same_calls { self.new.calls ≡ self.old.calls }
     {
         if fault == LoadFault::Failed {
             self.note(Call::Load, name.as_bytes())?;
@@ -79,6 +102,7 @@ impl<R: Runtime, E: Write + Drop> DirShelf<R, E> {
         answer: Result<(), StoreFault>,
     ) -> Result<(), StoreFault>
         ensures failed { self.new.faults.items ≡ self.old.faults.items ++ call_faults call name.now result }
+        ensures same_calls { self.new.calls ≡ self.old.calls }
     {
         if answer == Err(StoreFault::Failed) {
             self.note(call, name)?;
@@ -89,6 +113,7 @@ impl<R: Runtime, E: Write + Drop> DirShelf<R, E> {
     fn note(&mut self, call: Call, name: &[u8]) -> Result<(), AllocError>
         ensures noted { OnOk result (self.new.faults.items ≡ self.old.faults.items ++ one_fault call name.now) }
         ensures refused { OnErr result (self.new.faults.items ≡ self.old.faults.items) }
+        ensures same_calls { self.new.calls ≡ self.old.calls }
     {
         let name = FileName::new(self.alloc, name)?;
         self.faults.push(Fault { call, name })?;
@@ -102,36 +127,35 @@ impl<R: Runtime, E: Write + Drop> Shelf for DirShelf<R, E> {
       held = λ _. None;
       said = [];
       complained = [];
-      calls = [];
+      calls = shelf.calls.listed;
       faults = shelf.faults.items;
     } };
 
-    ghost gives = { λ _ _ _. Unit {0} };
-
     fn load(&mut self, name: &str, limit: u64, into: &mut Vec<u8>) -> Result<(), LoadFault> {
-        into.clear();
-        match self.read_file(name, limit, into) {
-            Ok(()) => Ok(()),
-            Err(fault) => {
-                into.clear();
-                self.note_load(name, fault)
-            }
-        }
+        let answer = self.load_file(name, limit, into);
+        self.calls.add_load(name, limit, into.as_slice(), answer);
+        answer
     }
 
     fn store(&mut self, name: &str, bytes: &[u8]) -> Result<(), StoreFault> {
         let answer = self.write_file(name, bytes);
-        self.note_store(Call::Store, name.as_bytes(), answer)
+        let answer = self.note_store(Call::Store, name.as_bytes(), answer);
+        self.calls.add(&Answered::Stored(name, bytes, answer));
+        answer
     }
 
     fn say(&mut self, bytes: &[u8]) -> Result<(), StoreFault> {
         let answer = write_whole(&mut io::writer(&self.rt), bytes);
-        self.note_store(Call::Say, b"", answer)
+        let answer = self.note_store(Call::Say, b"", answer);
+        self.calls.add(&Answered::Said(bytes, answer));
+        answer
     }
 
     fn complain(&mut self, bytes: &[u8]) -> Result<(), StoreFault> {
         let answer = write_whole(&mut self.errors, bytes);
-        self.note_store(Call::Complain, b"", answer)
+        let answer = self.note_store(Call::Complain, b"", answer);
+        self.calls.add(&Answered::Complained(bytes, answer));
+        answer
     }
 }
 

@@ -8,11 +8,13 @@
 //! The modules, in the order in which data flows through them:
 //!
 //! - `faults`: the refusals of a call, and the records of a call that was made and of one that failed;
+//! - `call_log`: the calls with what each answered, which only proofs see;
 //! - `calls`: the trait [`Shelf`];
 //! - `mem_shelf`: a shelf in memory that tells everything and fails where it is told to;
 //! - `dir_shelf`: the trusted edge over real files, standard output and standard error, which give or take a part of a text at a time.
 #![tactic(auto)]
 
+mod call_log;
 mod calls;
 mod dir_shelf;
 mod faults;

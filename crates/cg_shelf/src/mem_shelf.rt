@@ -1,13 +1,14 @@
 //! A shelf in memory, which fails where it is told to.
 
-ghost use Rattle.std.specs.Prelude.{◌≡◌, ◌-◌, ◌+◌, ◌^◌, ◌≤◌, ◌++◌, ◌||◌, [], Some, None, length, min, is_none, IfOk, OnOk, OnErr};
+ghost use Rattle.std.specs.Prelude.{◌≡◌, ◌-◌, ◌+◌, ◌^◌, ◌≤◌, ◌++◌, ◌∷◌, ◌||◌, [], Some, None, length, min, is_none, IfOk, OnOk, OnErr};
 ghost use Rattle.std.specs.Prelude.{option_copied};
-ghost use Rattle.cg_shelf.specs.MemShelf.{held_by, world_of, count_of, failing_of, next_fails, GivesHeld, LoadFailsWhere};
-ghost use Rattle.cg_shelf.specs.MemShelf.{FailsWhere};
-ghost use Rattle.cg_shelf.specs.Shelf.{LoadAnswers, Appends, Lists, ListsLoad, SameBut, call_faults, load_faults, load_given};
-ghost use Rattle.cg_shelf.specs.Shelf.{one_call, one_fault};
+ghost use Rattle.cg_shelf.specs.MemShelf.{held_by, world_of, count_of, failing_of, next_fails, LoadFailsWhere};
+ghost use Rattle.cg_shelf.specs.MemShelf.{FailsWhere, Lists, ListsLoad, made_by, one_call};
+ghost use Rattle.cg_shelf.specs.Asked.{Loaded, Stored, Said, Complained};
+ghost use Rattle.cg_shelf.specs.Shelf.{LoadAnswers, Appends, SameBut, call_faults, load_faults, load_given, one_fault};
 ghost use Rattle.cg_shelf.specs.declared.faults.Call.TheVariants.{Store, Say, Complain};
 
+use crate::call_log::{Answered, CallLog};
 use crate::calls::Shelf;
 use crate::faults::{Call, CallMade, Fault, FileName, LoadFault, StoreFault};
 use std::alloc::{AllocError, Global};
@@ -22,6 +23,7 @@ pub struct MemShelf {
     files: BTreeMap<String, Vec<u8>>,
     said: Vec<u8>,
     complained: Vec<u8>,
+    calls: CallLog,
     made: Vec<CallMade>,
     faults: Vec<Fault>,
     // The numbers of the calls that are to fail, and how many calls were made.
@@ -38,6 +40,7 @@ impl MemShelf {
         ensures said { IfOk result (λ shelf. (world_of shelf).said ≡ []) }
         ensures complained { IfOk result (λ shelf. (world_of shelf).complained ≡ []) }
         ensures calls { IfOk result (λ shelf. (world_of shelf).calls ≡ []) }
+        ensures made { IfOk result (λ shelf. made_by shelf ≡ []) }
         ensures faults { IfOk result (λ shelf. (world_of shelf).faults ≡ []) }
         ensures failing { IfOk result (λ shelf. failing_of shelf ≡ failing.now) }
         ensures count { IfOk result (λ shelf. count_of shelf ≡ 0) }
@@ -47,6 +50,7 @@ impl MemShelf {
             files: BTreeMap::new(alloc),
             said: Vec::new(alloc),
             complained: Vec::new(alloc),
+            calls: CallLog::new(),
             made: Vec::new(alloc),
             faults: Vec::new(alloc),
             failing: Vec::from_slice(alloc, failing)?,
@@ -62,6 +66,7 @@ impl MemShelf {
         ensures same_said { (world_of self.new).said ≡ (world_of self.old).said }
         ensures same_complained { (world_of self.new).complained ≡ (world_of self.old).complained }
         ensures same_calls { (world_of self.new).calls ≡ (world_of self.old).calls }
+        ensures same_made { made_by self.new ≡ made_by self.old }
         ensures same_faults { (world_of self.new).faults ≡ (world_of self.old).faults }
         ensures same_failing { failing_of self.new ≡ failing_of self.old }
         ensures same_count { count_of self.new ≡ count_of self.old }
@@ -98,9 +103,10 @@ impl MemShelf {
         self.complained.as_slice()
     }
 
-    /// The calls that were made, in order.
+    /// The calls that were made, in order, but for those that found no memory for their entries. It is for tests: contracts
+    /// speak of the calls of the shelf's world.
     pub fn calls(&self) -> &[CallMade]
-        ensures { result.now ≡ (world_of self.now).calls }
+        ensures { result.now ≡ made_by self.now }
     {
         self.made.as_slice()
     }
@@ -120,6 +126,7 @@ impl MemShelf {
         ensures same_files { self.new.files ≡ self.old.files }
         ensures same_said { self.new.said ≡ self.old.said }
         ensures same_complained { self.new.complained ≡ self.old.complained }
+        ensures same_calls { self.new.calls ≡ self.old.calls }
         ensures same_made { self.new.made ≡ self.old.made }
         ensures same_faults { self.new.faults ≡ self.old.faults }
     {
@@ -138,6 +145,7 @@ impl MemShelf {
         ensures same_said { (world_of self.new).said ≡ (world_of self.old).said }
         ensures same_complained { (world_of self.new).complained ≡ (world_of self.old).complained }
         ensures same_calls { (world_of self.new).calls ≡ (world_of self.old).calls }
+        ensures same_made { made_by self.new ≡ made_by self.old }
         ensures same_failing { failing_of self.new ≡ failing_of self.old }
         ensures same_count { count_of self.new ≡ count_of self.old }
     {
@@ -149,8 +157,9 @@ impl MemShelf {
     /// Begins a call: counts it, lists it, and tells whether it is to fail.
     fn begin(&mut self, call: Call, name: &[u8]) -> Result<bool, AllocError>
         ensures fails { IfOk result (λ fails. fails ≡ next_fails self.old) }
-        ensures listed { OnOk result ((world_of self.new).calls ≡ (world_of self.old).calls ++ one_call call name.now) }
-        ensures refused { OnErr result ((world_of self.new).calls ≡ (world_of self.old).calls) }
+        ensures made { OnOk result (made_by self.new ≡ made_by self.old ++ one_call call name.now) }
+        ensures refused { OnErr result (made_by self.new ≡ made_by self.old) }
+        ensures same_calls { (world_of self.new).calls ≡ (world_of self.old).calls }
         ensures count { count_of self.new ≡ min (count_of self.old + 1) (2 ^ 64 - 1) }
         ensures same_failing { failing_of self.new ≡ failing_of self.old }
         ensures same_files { self.new.files ≡ self.old.files }
@@ -165,12 +174,9 @@ impl MemShelf {
     }
 }
 
-impl Shelf for MemShelf {
-    ghost world = { world_of };
-
-    ghost gives = { λ shelf name given. GivesHeld (held_by shelf name) given };
-
-    fn load(&mut self, name: &str, limit: u64, into: &mut Vec<u8>) -> Result<(), LoadFault>
+/// The four calls, before they are listed with what they answered.
+impl MemShelf {
+    fn load_held(&mut self, name: &str, limit: u64, into: &mut Vec<u8>) -> Result<(), LoadFault>
         ensures fails { LoadFailsWhere (next_fails self.old || is_none (held_by self.old name.now)) result }
         ensures answer { LoadAnswers (held_by self.old name.now) limit into.new.items result }
         ensures within { OnOk result (length into.new.items ≤ limit) }
@@ -178,8 +184,8 @@ impl Shelf for MemShelf {
         ensures same_held { held_by self.new ≡ held_by self.old }
         ensures same_said { (world_of self.new).said ≡ (world_of self.old).said }
         ensures same_complained { (world_of self.new).complained ≡ (world_of self.old).complained }
-        ensures given { GivesHeld (held_by self.old name.now) (load_given into.new.items result) }
-        ensures listed { ListsLoad name.now (world_of self.old) (world_of self.new) result }
+        ensures same_calls { (world_of self.new).calls ≡ (world_of self.old).calls }
+        ensures made { ListsLoad name.now (made_by self.old) (made_by self.new) result }
         ensures failed { (world_of self.new).faults ≡ (world_of self.old).faults ++ load_faults name.now result }
         ensures same_failing { failing_of self.new ≡ failing_of self.old }
         ensures count { count_of self.new ≡ min (count_of self.old + 1) (2 ^ 64 - 1) }
@@ -200,14 +206,15 @@ impl Shelf for MemShelf {
         Ok(())
     }
 
-    fn store(&mut self, name: &str, bytes: &[u8]) -> Result<(), StoreFault>
+    fn store_held(&mut self, name: &str, bytes: &[u8]) -> Result<(), StoreFault>
         ensures fails { FailsWhere (next_fails self.old) result }
         ensures stored { OnOk result (held_by self.new name.now ≡ Some bytes.now) }
         ensures refused { OnErr result (held_by self.new ≡ held_by self.old) }
         ensures others { SameBut name.now (held_by self.old) (held_by self.new) }
         ensures same_said { (world_of self.new).said ≡ (world_of self.old).said }
         ensures same_complained { (world_of self.new).complained ≡ (world_of self.old).complained }
-        ensures listed { Lists Store name.now (world_of self.old) (world_of self.new) result }
+        ensures same_calls { (world_of self.new).calls ≡ (world_of self.old).calls }
+        ensures made { Lists Store name.now (made_by self.old) (made_by self.new) result }
         ensures failed { (world_of self.new).faults ≡ (world_of self.old).faults ++ call_faults Store name.now result }
         ensures same_failing { failing_of self.new ≡ failing_of self.old }
         ensures count { count_of self.new ≡ min (count_of self.old + 1) (2 ^ 64 - 1) }
@@ -220,13 +227,14 @@ impl Shelf for MemShelf {
         Ok(())
     }
 
-    fn say(&mut self, bytes: &[u8]) -> Result<(), StoreFault>
+    fn say_more(&mut self, bytes: &[u8]) -> Result<(), StoreFault>
         ensures fails { FailsWhere (next_fails self.old) result }
         ensures said { Appends (world_of self.old).said (world_of self.new).said bytes.now result }
         ensures refused { OnErr result ((world_of self.new).said ≡ (world_of self.old).said) }
         ensures same_held { held_by self.new ≡ held_by self.old }
         ensures same_complained { (world_of self.new).complained ≡ (world_of self.old).complained }
-        ensures listed { Lists Say [] (world_of self.old) (world_of self.new) result }
+        ensures same_calls { (world_of self.new).calls ≡ (world_of self.old).calls }
+        ensures made { Lists Say [] (made_by self.old) (made_by self.new) result }
         ensures failed { (world_of self.new).faults ≡ (world_of self.old).faults ++ call_faults Say [] result }
         ensures same_failing { failing_of self.new ≡ failing_of self.old }
         ensures count { count_of self.new ≡ min (count_of self.old + 1) (2 ^ 64 - 1) }
@@ -239,13 +247,14 @@ impl Shelf for MemShelf {
         Ok(())
     }
 
-    fn complain(&mut self, bytes: &[u8]) -> Result<(), StoreFault>
+    fn complain_more(&mut self, bytes: &[u8]) -> Result<(), StoreFault>
         ensures fails { FailsWhere (next_fails self.old) result }
         ensures complained { Appends (world_of self.old).complained (world_of self.new).complained bytes.now result }
         ensures refused { OnErr result ((world_of self.new).complained ≡ (world_of self.old).complained) }
         ensures same_held { held_by self.new ≡ held_by self.old }
         ensures same_said { (world_of self.new).said ≡ (world_of self.old).said }
-        ensures listed { Lists Complain [] (world_of self.old) (world_of self.new) result }
+        ensures same_calls { (world_of self.new).calls ≡ (world_of self.old).calls }
+        ensures made { Lists Complain [] (made_by self.old) (made_by self.new) result }
         ensures failed { (world_of self.new).faults ≡ (world_of self.old).faults ++ call_faults Complain [] result }
         ensures same_failing { failing_of self.new ≡ failing_of self.old }
         ensures count { count_of self.new ≡ min (count_of self.old + 1) (2 ^ 64 - 1) }
@@ -256,5 +265,80 @@ impl Shelf for MemShelf {
         }
         self.complained.extend_from_slice(bytes)?;
         Ok(())
+    }
+}
+
+impl Shelf for MemShelf {
+    ghost world = { world_of };
+
+    fn load(&mut self, name: &str, limit: u64, into: &mut Vec<u8>) -> Result<(), LoadFault>
+        ensures fails { LoadFailsWhere (next_fails self.old || is_none (held_by self.old name.now)) result }
+        ensures answer { LoadAnswers (held_by self.old name.now) limit into.new.items result }
+        ensures within { OnOk result (length into.new.items ≤ limit) }
+        ensures refused { OnErr result (into.new.items ≡ []) }
+        ensures same_held { held_by self.new ≡ held_by self.old }
+        ensures same_said { (world_of self.new).said ≡ (world_of self.old).said }
+        ensures same_complained { (world_of self.new).complained ≡ (world_of self.old).complained }
+        ensures listed { (world_of self.new).calls ≡ (world_of self.old).calls ++ Loaded name.now limit (load_given into.new.items result) ∷ [] }
+        ensures made { ListsLoad name.now (made_by self.old) (made_by self.new) result }
+        ensures failed { (world_of self.new).faults ≡ (world_of self.old).faults ++ load_faults name.now result }
+        ensures same_failing { failing_of self.new ≡ failing_of self.old }
+        ensures count { count_of self.new ≡ min (count_of self.old + 1) (2 ^ 64 - 1) }
+    {
+        let answer = self.load_held(name, limit, into);
+        self.calls.add_load(name, limit, into.as_slice(), answer);
+        answer
+    }
+
+    fn store(&mut self, name: &str, bytes: &[u8]) -> Result<(), StoreFault>
+        ensures fails { FailsWhere (next_fails self.old) result }
+        ensures stored { OnOk result (held_by self.new name.now ≡ Some bytes.now) }
+        ensures refused { OnErr result (held_by self.new ≡ held_by self.old) }
+        ensures others { SameBut name.now (held_by self.old) (held_by self.new) }
+        ensures same_said { (world_of self.new).said ≡ (world_of self.old).said }
+        ensures same_complained { (world_of self.new).complained ≡ (world_of self.old).complained }
+        ensures listed { (world_of self.new).calls ≡ (world_of self.old).calls ++ Stored name.now bytes.now result ∷ [] }
+        ensures made { Lists Store name.now (made_by self.old) (made_by self.new) result }
+        ensures failed { (world_of self.new).faults ≡ (world_of self.old).faults ++ call_faults Store name.now result }
+        ensures same_failing { failing_of self.new ≡ failing_of self.old }
+        ensures count { count_of self.new ≡ min (count_of self.old + 1) (2 ^ 64 - 1) }
+    {
+        let answer = self.store_held(name, bytes);
+        self.calls.add(&Answered::Stored(name, bytes, answer));
+        answer
+    }
+
+    fn say(&mut self, bytes: &[u8]) -> Result<(), StoreFault>
+        ensures fails { FailsWhere (next_fails self.old) result }
+        ensures said { Appends (world_of self.old).said (world_of self.new).said bytes.now result }
+        ensures refused { OnErr result ((world_of self.new).said ≡ (world_of self.old).said) }
+        ensures same_held { held_by self.new ≡ held_by self.old }
+        ensures same_complained { (world_of self.new).complained ≡ (world_of self.old).complained }
+        ensures listed { (world_of self.new).calls ≡ (world_of self.old).calls ++ Said bytes.now result ∷ [] }
+        ensures made { Lists Say [] (made_by self.old) (made_by self.new) result }
+        ensures failed { (world_of self.new).faults ≡ (world_of self.old).faults ++ call_faults Say [] result }
+        ensures same_failing { failing_of self.new ≡ failing_of self.old }
+        ensures count { count_of self.new ≡ min (count_of self.old + 1) (2 ^ 64 - 1) }
+    {
+        let answer = self.say_more(bytes);
+        self.calls.add(&Answered::Said(bytes, answer));
+        answer
+    }
+
+    fn complain(&mut self, bytes: &[u8]) -> Result<(), StoreFault>
+        ensures fails { FailsWhere (next_fails self.old) result }
+        ensures complained { Appends (world_of self.old).complained (world_of self.new).complained bytes.now result }
+        ensures refused { OnErr result ((world_of self.new).complained ≡ (world_of self.old).complained) }
+        ensures same_held { held_by self.new ≡ held_by self.old }
+        ensures same_said { (world_of self.new).said ≡ (world_of self.old).said }
+        ensures listed { (world_of self.new).calls ≡ (world_of self.old).calls ++ Complained bytes.now result ∷ [] }
+        ensures made { Lists Complain [] (made_by self.old) (made_by self.new) result }
+        ensures failed { (world_of self.new).faults ≡ (world_of self.old).faults ++ call_faults Complain [] result }
+        ensures same_failing { failing_of self.new ≡ failing_of self.old }
+        ensures count { count_of self.new ≡ min (count_of self.old + 1) (2 ^ 64 - 1) }
+    {
+        let answer = self.complain_more(bytes);
+        self.calls.add(&Answered::Complained(bytes, answer));
+        answer
     }
 }

@@ -1,9 +1,10 @@
 pub mod Taken
+mod ProperCells
 mod BlifTexts
 mod VerilogTexts
-pub mod NetlistTexts
 mod DumpRows
 pub mod StimulusTexts
 pub mod HintTexts
 pub mod Texts
+pub mod NetlistTexts
 pub mod DesignRead

@@ -1,5 +1,5 @@
 -- What is read of a Verilog text is what the text says.
-use Rattle.std.proofs.Common.{◌≡◌, ℕ, List, Option, Result, Ok, Err}
+use Rattle.std.proofs.Common.{◌≡◌, ℕ, List, Option, Result, Ok, Err, subst}
 use Rattle.std.specs.Prelude.{IfErr, IfOk, MatchResult}
 use Rattle.cg_cell.specs.Cell.{CellData}
 use Rattle.cg_netlist.specs.Circuit.{Circuit}
@@ -10,11 +10,12 @@ use Rattle.cg_verilog.specs.Reads.{IsFirstOrNoMemory}
 use Rattle.cg_verilog_text.specs.declared.fault.VerilogFault.{VerilogFault}
 use Rattle.cg_verilog_text.specs.declared.fault.VerilogFault.TheVariants.{BadText, UnknownCell, UnusableCell, PinFault, Net, Limit, NoMemory}
 use Rattle.cg_verilog_text.specs.ReadAs.{AreProper}
-use Rattle.cg_verilog_text.specs.VerilogText.{IsReadAs, VerilogText}
+use Rattle.cg_verilog_text.specs.VerilogText.{IsFirstVerilogFault, IsReadAs, VerilogText}
 use Rattle.cg_verilog_text.proofs.ReadOnce.{read_as, read_once}
 use Rattle.cg_verilog_text.proofs.TextIsTaken.{text_is_placeable}
 use Rattle.cg_source.specs.Verilog.{IsVerilogFaultOf, verilog_found, verilog_said, verilog_trouble}
-use Rattle.cg_source.proofs.Taken.{refused_ok}
+use Rattle.cg_run.specs.declared.refusal.Trouble.{Trouble}
+use Rattle.cg_source.proofs.Taken.{refused_err, refused_ok}
 
 module _ (library : List CellData) (clock : Option NetName) (text : List ℕ) where
   said_says : (c : Circuit) → verilog_said library clock text ≡ Ok c → VerilogText text library clock c
@@ -37,6 +38,14 @@ module _ (library : List CellData) (clock : Option NetName) (text : List ℕ) wh
   verilog_placeable c is =
       let proper = said_proper c (refused_ok verilog_trouble (verilog_said library clock text) c is) in
       text_is_placeable library proper.cells clock text c proper.named (verilog_says c is)
+
+  said_refuses : AreProper library clock → (fault : VerilogFault) → verilog_said library clock text ≡ Err fault → IsFirstVerilogFault text library clock fault
+  unfolding verilog_said
+  said_refuses proper fault is = let R : Result Circuit VerilogFault → Type 0 = λ r. IsReadAs library clock text r in subst R is ((read_as library clock text).is proper)
+
+  -- with a proper library and clock a text is refused for its first fault
+  pub verilog_refused : AreProper library clock → (trouble : Trouble) → verilog_found library clock text ≡ Err trouble → (fault : VerilogFault) × (IsFirstVerilogFault text library clock fault × (trouble ≡ verilog_trouble fault))
+  verilog_refused proper trouble is = let r = refused_err verilog_trouble (verilog_said library clock text) trouble is in (r.0, (said_refuses proper r.0 r.1, r.2))
 
   reads : AreProper library clock → (r : Result Circuit VerilogFault) → IsReadAs library clock text r → verilog_said library clock text ≡ r
   unfolding verilog_said

@@ -1,6 +1,8 @@
 //! The cells that a netlist may place.
 
 ghost use Rattle.std.specs.Prelude.{◌≡◌, IfOk};
+ghost use Rattle.std.specs.List.{AllByRecursion};
+ghost use Rattle.cg_cell.specs.Cell.{IsCell};
 ghost use Rattle.cg_run.specs.Verdict.{Answers};
 ghost use Rattle.cg_source.specs.Library.{library_found, library_trouble};
 
@@ -14,9 +16,10 @@ use cg_run::{Content, Owner, Trouble};
 use cg_text::number::push_number;
 use std::alloc::{AllocError, Global};
 
-/// The library that a text says.
+/// The library that a text says. Its cells are cells.
 pub fn take_library(alloc: Global, text: &Seq<u8>) -> Result<Library, Trouble>
-    ensures { Answers (library_found text.now) result }
+    ensures answers { Answers (library_found text.now) result }
+    ensures cells { IfOk result (λ library. AllByRecursion IsCell library) }
 {
     match read_library(alloc, text.as_slice()) {
         Ok(library) => Ok(library),

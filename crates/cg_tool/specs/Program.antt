@@ -1,12 +1,11 @@
 -- What a run of the program does, by its words.
-use Rattle.std.specs.Prelude.{◌≡◌, ℕ, Bool, if◌then◌else◌, IsTrue, List, codes, Option, None, Some, IfSome, Result, ⊤}
+use Rattle.std.specs.Prelude.{◌≡◌, ℕ, Bool, if◌then◌else◌, IsTrue, List, codes, Option, None, Some, IfSome, ⊤}
 use Rattle.cg_shelf.specs.World.{World}
-use Rattle.cg_shelf.specs.declared.faults.LoadFault.{LoadFault}
 use Rattle.cg_run.specs.Names.{file_of}
-use Rattle.cg_run.specs.Promise.{Ended, EndsAs, FinishBy, Gains, KeepsOthers, LeavesShelf, UnlessFails, held_files}
+use Rattle.cg_run.specs.Promise.{EndsAs, FinishBy, KeepsOthers, UnlessFails, held_files}
 use Rattle.cg_run.specs.Refusal.{complaint_line}
 use Rattle.cg_run.specs.Run.{Complains, Runs}
-use Rattle.cg_run.specs.Verdict.{Given, Task}
+use Rattle.cg_run.specs.Verdict.{Task}
 use Rattle.cg_run.specs.declared.status.Status.{Status}
 use Rattle.cg_run.specs.declared.status.Status.TheVariants as statuses
 use Rattle.cg_command_line.specs.Jobs.{IsByName, JobWords}
@@ -14,6 +13,7 @@ use Rattle.cg_command_line.specs.declared.job.Mode.{Mode}
 use Rattle.cg_command_line.specs.declared.job.Mode.TheVariants.{Demo, Gate, Lrat, Sim}
 use Rattle.cg_command_line.specs.declared.options.Options.{Options}
 use Rattle.cg_reach_laws.specs.Laws.{LeavesAreLedTo, PathsReach}
+use Rattle.cg_source.specs.Netlist.{RefusesForFirstFaults}
 use Rattle.cg_source.specs.declared.stimulus.StimulusForm.{StimulusForm}
 use Rattle.cg_tool.specs.Demo.{IsDemo, demo_task}
 use Rattle.cg_tool.specs.Gate.{gate_task}
@@ -34,15 +34,20 @@ task_in kinds (Demo size) options = demo_task size
 abbrev pub task_by : List Kind → JobWords → Task
 task_by kinds job = task_in kinds job.mode job.options
 
+-- the same, with what its files are refused for as the first of what it tries, in its order, that refuses
+abbrev pub job_task : List Kind → JobWords → Task
+job_task kinds job = record (task_by kinds job) { refused = first_refusal job.mode job.options }
+
 -- Words that ask for nothing are complained of, and nothing else is done. Want of memory may come in their place.
 pub record RefusesWords (before after : World) (result : Status) : Type 0 where
   pub has_memory : Bool
   pub complains : Complains (complaint_line (if has_memory then codes "usage" else codes "no memory"))
       (if has_memory then statuses.Usage else statuses.NoMemory) before after result
 
-abbrev pub RunsWords : (List ℕ → Result (List ℕ) LoadFault → Type 0) → List Kind → Option JobWords → World → World → Status → Type 0
-RunsWords gave kinds None before after result = RefusesWords before after result
-RunsWords gave kinds (Some job) before after result = Runs gave (task_by kinds job) (file_of job.files) before after result
+-- What a run did that was asked for this job, if for any, where each job is this task.
+abbrev pub RunsWords : (JobWords → Task) → Option JobWords → World → World → Status → Type 0
+RunsWords task None before after result = RefusesWords before after result
+RunsWords task (Some job) before after result = Runs (task job) (file_of job.files) before after result
 
 -- the end is this one, or want of memory
 abbrev pub IsOrNoMemory : Status → Status → Type 0
@@ -54,40 +59,36 @@ abbrev pub KeepsAll : Option JobWords → World → World → Type 0
 KeepsAll None before after = after.held ≡ before.held
 KeepsAll (Some job) before after = ⊤
 
+-- Laws of a job, whatever becomes of its run.
+pub record JobLaws (asked : Option JobWords) : Type 0 where
+  -- the files that it stores have different names, so that each holds its text
+  pub apart : IfSome asked (λ job. job.mode ≡ Gate → AreApart job.options.asked (file_of job.files))
+  -- a netlist is read in the form that its name has, and its text is refused for its first fault, with each library that was found
+  pub formed : IfSome asked IsByName
+  pub refused : IfSome asked (λ job. RefusesForFirstFaults job.options.netlist)
+  -- the claims by which registers get their enables reach what paths lead to from their goals, and so are their leaves
+  pub reached : PathsReach
+  pub leaves : LeavesAreLedTo
+
 -- What the program promises of a run over a shelf, where its words ask for this job, if for any, and watchers of these kinds are
 -- there.
-pub record Promises (gave : List ℕ → Result (List ℕ) LoadFault → Type 0) (kinds : List Kind) (asked : Option JobWords)
-    (before after : World) (result : Status) : Type 0 where
-  -- what the run did: its calls in order, what each file gave, the one output that it put out, and what stands
-  pub runs : RunsWords gave kinds asked before after result
+pub record Promises (kinds : List Kind) (asked : Option JobWords) (before after : World) (result : Status) : Type 0 where
+  -- What the run did: what each load gave; the one output that it put out, or the first of what the job tries that refused;
+  -- its calls in order, with what each answered; how it ended, and what it complained of; and what stands.
+  pub runs : RunsWords (job_task kinds) asked before after result
   -- Usage comes exactly of words that are no job
   pub usage : result ≡ statuses.Usage → asked ≡ None
   pub usage_only : asked ≡ None → IsOrNoMemory statuses.Usage result
   pub usage_keeps : IsTrue before.tells → KeepsAll asked before after
-  -- how a job ended, with the cause, the line of complaint and the failed calls
-  pub ended : IfSome asked (λ job. Ended gave (task_by kinds job) (file_of job.files) before after result)
-  -- the files of a job are refused for the first of what it tries, in its order, that refuses
-  pub first : IfSome asked (λ job. (given : Given) → (task_by kinds job).refused given ≡ first_refusal job.mode job.options given)
-  -- what stands, by the status
-  pub stands : IsTrue before.tells → IfSome asked (λ job. LeavesShelf (task_by kinds job) (file_of job.files) before after result)
-  -- at most one failed call besides that of the complaint, and which, by the status
-  pub gains : IfSome asked (λ job. Gains (task_by kinds job) (file_of job.files) before after result)
   -- every name but that of a stored file holds what it held
-  pub others : IsTrue before.tells → IfSome asked (λ job. KeepsOthers (task_by kinds job) (file_of job.files) before after)
+  pub others : IsTrue before.tells → IfSome asked (λ job. KeepsOthers (job_task kinds job) (file_of job.files) before after)
   -- where no call of the shelf fails and memory is there, a job ends as its files come to
   pub comes : IsTrue before.tells
-      → IfSome asked (λ job. UnlessFails (EndsAs (task_by kinds job) (held_files (file_of job.files) before)) result)
+      → IfSome asked (λ job. UnlessFails (EndsAs (job_task kinds job) (held_files (file_of job.files) before)) result)
   -- `gate` writes a netlist that shows, from every state and for all time, what the one that it read shows
   pub gated : IsTrue before.tells
       → IfSome asked (λ job. job.mode ≡ Gate
       → FinishBy (IsGated job.options (kind_at kinds job.options.watch) (file_of job.files) before after) result)
-  -- the files that it stores have different names, so that each holds its text
-  pub apart : IfSome asked (λ job. job.mode ≡ Gate → AreApart job.options.asked (file_of job.files))
-  -- a netlist is read in the form that its name has
-  pub formed : IfSome asked IsByName
-  -- the claims by which registers get their enables reach what paths lead to from their goals, and so are their leaves
-  pub reached : PathsReach
-  pub leaves : LeavesAreLedTo
   -- `sim` says the lines of the one history on which the stimulus is played, and what the watcher says of its moments
   pub simulated : IsTrue before.tells
       → IfSome asked (λ job. (form : StimulusForm) → job.mode ≡ Sim form
@@ -98,3 +99,5 @@ pub record Promises (gave : List ℕ → Result (List ℕ) LoadFault → Type 0)
   -- `lrat` checks the proof that it was given, and what it accepts has no satisfying assignment
   pub checked : IsTrue before.tells
       → IfSome asked (λ job. job.mode ≡ Lrat → FinishBy (IsChecked (file_of job.files) before after) result)
+  -- and whatever became of the run
+  pub laws : JobLaws asked

@@ -4,7 +4,6 @@ ghost use Rattle.std.specs.Prelude.{◌≡◌, map, IfOk};
 ghost use Rattle.std.specs.Option.{option_map};
 ghost use Rattle.std.specs.String.{string_bytes};
 ghost use Rattle.cg_run.specs.Names.{name_of};
-ghost use Rattle.cg_run.specs.Reads.{Gave};
 ghost use Rattle.cg_run.specs.Run.{Runs};
 ghost use Rattle.cg_command_line.specs.Jobs.{job_of, job_words};
 ghost use Rattle.cg_command_line.specs.Options.{NamesTest};
@@ -16,7 +15,7 @@ use cg_command_line::{Job, Mode, read_words};
 use cg_plan::progress::Progress;
 use cg_reach_laws::laws::reach_laws;
 use cg_report::watcher::Watcher;
-use cg_run::{Status, complain};
+use cg_run::{Status, complain, no_memory};
 use cg_shelf::Shelf;
 use std::alloc::{AllocError, Global};
 
@@ -33,7 +32,7 @@ pub fn run<S: Shelf>(
     watchers: Vec<Box<dyn Watcher>>,
     progress: &mut dyn Progress,
 ) -> Status
-    ensures { Promises (Gave S.gives) (map (λ watcher. says watcher) watchers.items)
+    ensures { Promises (map (λ watcher. says watcher) watchers.items)
         (job_of (map (λ watcher. called watcher) watchers.items) (map string_bytes words.now)) (S.world shelf.old) (S.world shelf.new) result }
 {
     reach_laws();
@@ -48,13 +47,13 @@ fn run_words<S: Shelf>(
     watchers: Vec<Box<dyn Watcher>>,
     progress: &mut dyn Progress,
 ) -> Status
-    ensures { RunsWords (Gave S.gives) (map (λ watcher. says watcher) watchers.items)
+    ensures { RunsWords (task_by (map (λ watcher. says watcher) watchers.items))
         (job_of (map (λ watcher. called watcher) watchers.items) (map string_bytes words.now)) (S.world shelf.old) (S.world shelf.new) result }
 {
     match read_job(alloc, words, watchers.as_slice()) {
         Ok(Some(job)) => run_job(alloc, shelf, job, watchers, progress),
         Ok(None) => complain(shelf, Status::Usage, b"clockgate: usage\n"),
-        Err(_) => complain(shelf, Status::NoMemory, b"clockgate: no memory\n"),
+        Err(_) => no_memory(shelf),
     }
 }
 
@@ -79,7 +78,7 @@ fn run_job<S: Shelf>(
     progress: &mut dyn Progress,
 ) -> Status
     requires { NamesTest job.options }
-    ensures { Runs (Gave S.gives) (task_by (map (λ watcher. says watcher) watchers.items) (job_words job.entry)) (name_of job.entry.names) (S.world shelf.old)
+    ensures { Runs (task_by (map (λ watcher. says watcher) watchers.items) (job_words job.entry)) (name_of job.entry.names) (S.world shelf.old)
         (S.world shelf.new) result }
 {
     let Job {

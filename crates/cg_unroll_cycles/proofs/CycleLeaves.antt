@@ -24,7 +24,8 @@ use Rattle.cg_claim.specs.declared.leaf.LeafSource.TheVariants.{Input, Register}
 use Rattle.cg_claim.proofs.LeavesFound.{source_is, source_self}
 use Rattle.cg_claim.proofs.OneCopy.{filter_none}
 use Rattle.cg_claim_reach.specs.Leaves.{input_leaf, register_leaf}
-use Rattle.cg_hint_laws.specs.Leaves.{is_leaf, leaf_place, leaves_at, leaves_of, same_leaf, width_of}
+use Rattle.cg_claim.specs.form.Leaves.{leaf_place, same_leaf}
+use Rattle.cg_hint_laws.specs.Leaves.{is_leaf, leaves_at, leaves_of, width_of}
 use Rattle.cg_hint_laws.specs.Question.{Question}
 use Rattle.cg_hint_laws.specs.Reach.{asked_of, nets_of}
 use Rattle.cg_unroll.proofs.Building.{map_same_list}
@@ -286,3 +287,9 @@ module _ (m : MachineData) (q : Question) where
       flat_end : (ys : List ℕ) (x : ℕ) → flat_map (leaves_at m q) (ys ++ x ∷ []) ≡ flat_map (leaves_at m q) ys ++ leaves_at m q x
       flat_end [] x = append-nil (leaves_at m q x)
       flat_end (y ∷ ys) x = ap (λ l. leaves_at m q y ++ l) (flat_end ys x) ∙ sym (append_assoc (leaves_at m q y) (flat_map (leaves_at m q) ys) (leaves_at m q x))
+
+-- lists of the numbers below n + 1, and of 0 and the n that follow
+pub first_then : (f : ℕ → List Leaf) (n : ℕ) → flat_map f (range_with_len 0 (n + 1)) ≡ f 0 ++ flat_map f (range_with_len 1 n)
+first_then f n =
+    let e : suc n ≡ n + 1 = omega arith in
+    subst (λ k. flat_map f (range_with_len 0 k) ≡ f 0 ++ flat_map f (range_with_len 1 n)) e refl

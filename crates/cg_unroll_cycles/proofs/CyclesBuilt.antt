@@ -13,7 +13,8 @@ use Rattle.cg_claim.specs.Tables.{SameOn}
 use Rattle.cg_claim.specs.declared.leaf.Leaf.{Leaf}
 use Rattle.cg_claim.specs.declared.leaf.LeafSource.TheVariants.{Input, Register}
 use Rattle.cg_claim.proofs.ReachedOnly.{copy_laid, same_then}
-use Rattle.cg_hint_laws.specs.Build.{Cycle, cycle_from, goal_run, lay_next, leaf_value, next_states, question_run}
+use Rattle.cg_claim.specs.form.Build.{Cycle, leaf_value}
+use Rattle.cg_hint_laws.specs.Build.{cycle_from, goal_run, lay_next, next_states, question_run}
 use Rattle.cg_hint_laws.specs.Leaves.{leaves_of}
 use Rattle.cg_hint_laws.specs.Question.{Question}
 use Rattle.cg_hint_laws.specs.Reach.{asked_of, nets_of, states_of}

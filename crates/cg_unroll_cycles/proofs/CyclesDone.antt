@@ -14,7 +14,8 @@ use Rattle.cg_claim.specs.Build.{Table, Values, literal_of, next_run, put_run}
 use Rattle.cg_claim.specs.Reach.{next_asks_own, next_nets}
 use Rattle.cg_claim.specs.Tables.{SameOn}
 use Rattle.cg_claim.proofs.ReachedOnly.{next_same}
-use Rattle.cg_hint_laws.specs.Build.{Cycle, and_run, condition_run, goal_of, goal_run, lay_next, or_run, term_run}
+use Rattle.cg_claim.specs.form.Build.{Cycle, and_run, condition_run, or_run, term_run}
+use Rattle.cg_hint_laws.specs.Build.{goal_of, goal_run, lay_next}
 use Rattle.cg_hint_laws.specs.Hints.{condition_nets}
 use Rattle.cg_hint_laws.specs.Question.{Question}
 use Rattle.cg_hint_laws.specs.Reach.{nets_of, states_of}

@@ -17,7 +17,7 @@ use Rattle.cg_netlist.proofs.RisingPlaces.{in_head, in_tail}
 use Rattle.cg_claim.specs.Build.{aig_values, literal_of}
 use Rattle.cg_claim.proofs.WholeLists.{run_fits}
 use Rattle.cg_claim_reach.proofs.Marking.{drop_whole}
-use Rattle.cg_hint_laws.specs.Build.{and_run, condition_run, or_run, term_run}
+use Rattle.cg_claim.specs.form.Build.{and_run, condition_run, or_run, term_run}
 use Rattle.cg_hint_laws.specs.Hints.{condition_nets}
 use Rattle.cg_unroll.specs.Building.{Built, MayFail}
 use Rattle.cg_unroll.proofs.Building.{fails_first, fails_longer}

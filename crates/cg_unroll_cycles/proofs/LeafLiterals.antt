@@ -13,8 +13,9 @@ use Rattle.cg_claim.specs.Leaves.{is_source}
 use Rattle.cg_claim.specs.declared.leaf.Leaf.{Leaf}
 use Rattle.cg_claim.specs.declared.leaf.LeafSource.{LeafSource}
 use Rattle.cg_claim.specs.declared.leaf.LeafSource.TheVariants.{Input, Register}
-use Rattle.cg_hint_laws.specs.Build.{leaf_value}
-use Rattle.cg_hint_laws.specs.Leaves.{leaf_place, leaves_of, same_leaf}
+use Rattle.cg_claim.specs.form.Build.{leaf_value}
+use Rattle.cg_claim.specs.form.Leaves.{leaf_place, same_leaf}
+use Rattle.cg_hint_laws.specs.Leaves.{leaves_of}
 use Rattle.cg_hint_laws.specs.Question.{Question}
 use Rattle.cg_unroll.specs.Laid.{HoldsInputs}
 use Rattle.cg_unroll.specs.Placing.{AgreesLeaves, ArePlaced, FillsLeaves, place_in, source_place}

@@ -10,7 +10,8 @@ use Rattle.cg_machine.specs.Machine.{MachineData}
 use Rattle.cg_claim.specs.Build.{Table, aig_values, next_run, put_run}
 use Rattle.cg_claim.specs.Tables.{SameOn}
 use Rattle.cg_claim.proofs.ReachedOnly.{put_same, same_then}
-use Rattle.cg_hint_laws.specs.Build.{Cycle, lay_next}
+use Rattle.cg_claim.specs.form.Build.{Cycle}
+use Rattle.cg_hint_laws.specs.Build.{lay_next}
 use Rattle.cg_unroll.specs.Building.{Built, MayFail, table_of}
 use Rattle.cg_unroll.proofs.Building.{fails_longer}
 use Rattle.cg_unroll.proofs.Laying.{everywhere, valid_set, written}

@@ -21,7 +21,8 @@ use Rattle.cg_claim_reach.proofs.Filtering.{in_filtered, in_order_are, in_ranged
 use Rattle.cg_claim_reach.proofs.RootsThere.{AreThere, both_there, next_there, none_there}
 use Rattle.cg_hint_laws.specs.Hints.{condition_nets}
 use Rattle.cg_hint_laws.specs.Question.{Question}
-use Rattle.cg_hint_laws.specs.Reach.{Asked, asked_back, asked_before, asked_last, asked_of, reached_nets, reached_states}
+use Rattle.cg_claim.specs.form.Reach.{Asked}
+use Rattle.cg_hint_laws.specs.Reach.{asked_back, asked_before, asked_last, asked_of, reached_nets, reached_states}
 use Rattle.cg_hint_laws.proofs.Reached.{asked_within, back_within}
 use Rattle.cg_unroll_cycles.specs.Asking.{AsksThere}
 use Rattle.cg_unroll_cycles.specs.declared.asked.Asked.{Asked as AskedData}

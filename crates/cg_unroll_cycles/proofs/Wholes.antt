@@ -12,7 +12,8 @@ use Rattle.cg_claim.specs.Build.{Table, aig_values, literal_of, next_run, put_ru
 use Rattle.cg_claim.specs.Reach.{registers_of}
 use Rattle.cg_claim.specs.declared.leaf.LeafSource.TheVariants.{Input, Register}
 use Rattle.cg_claim.proofs.WholeLists.{lay_grows, next_of_grows, run_fits}
-use Rattle.cg_hint_laws.specs.Build.{Cycle, and_run, condition_run, goal_of, goal_run, lay_next, leaf_value, next_states, or_run, question_run, term_run}
+use Rattle.cg_claim.specs.form.Build.{Cycle, and_run, condition_run, leaf_value, or_run, term_run}
+use Rattle.cg_hint_laws.specs.Build.{goal_of, goal_run, lay_next, next_states, question_run}
 use Rattle.cg_hint_laws.specs.Leaves.{leaves_of}
 use Rattle.cg_hint_laws.specs.Question.{Question}
 use Rattle.cg_hint_laws.specs.Reach.{nets_of, states_of}

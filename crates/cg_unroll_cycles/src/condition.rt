@@ -6,7 +6,7 @@ ghost use Rattle.cg_aig.specs.Aig.{aig_ops};
 ghost use Rattle.cg_cell.specs.Domain.{AreValid};
 ghost use Rattle.cg_claim.specs.Build.{aig_values};
 ghost use Rattle.cg_net.specs.NetSets.{is_in};
-ghost use Rattle.cg_hint_laws.specs.Build.{condition_run, term_run};
+ghost use Rattle.cg_claim.specs.form.Build.{condition_run, term_run};
 ghost use Rattle.cg_hint_laws.specs.Hints.{condition_nets};
 ghost use Rattle.cg_unroll.specs.Building.{Built, MayFail};
 ghost use Rattle.cg_unroll_cycles.specs.inner.Joining.{or_term_run};

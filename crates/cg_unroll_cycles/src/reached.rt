@@ -3,7 +3,8 @@
 ghost use Rattle.std.specs.Prelude.{◌≡◌, ◌<◌, ◌-◌, ◌++◌, ℕ, true, Some, length, slice_get, IfOk};
 ghost use Rattle.std.specs.List.{All, filter, range_with_len};
 ghost use Rattle.cg_net.specs.NetSets.{is_in};
-ghost use Rattle.cg_hint_laws.specs.Reach.{Asked as AskedOf, asked_back, asked_of};
+ghost use Rattle.cg_claim.specs.form.Reach.{Asked as AskedOf};
+ghost use Rattle.cg_hint_laws.specs.Reach.{asked_back, asked_of};
 ghost use Rattle.cg_unroll_cycles.specs.Asking.{AsksThere, question_of};
 ghost use Rattle.cg_unroll_cycles.specs.inner.Reached.{AreBack, AreCycles, Asks, IsReachOf, IsReached, IsThere};
 

@@ -5,7 +5,7 @@ ghost use Rattle.std.specs.Option.{option_map};
 ghost use Rattle.cg_gate.specs.Request.{MayGate, stops_at};
 ghost use Rattle.cg_run.specs.Names.{name_of};
 ghost use Rattle.cg_run.specs.Promise.{FinishBy};
-ghost use Rattle.cg_run.specs.Reads.{Gave, Reads};
+ghost use Rattle.cg_run.specs.Reads.{Reads};
 ghost use Rattle.cg_run.specs.Run.{Runs};
 ghost use Rattle.cg_run.specs.Verdict.{Answers, Concludes};
 ghost use Rattle.cg_tool.specs.Demo.{IsDemo, PutsDemo, cells_text, demo_gives, demo_stops, demo_takes, demo_task};
@@ -28,7 +28,10 @@ use cg_list::Seq;
 use cg_netlist::fault::AddFault;
 use cg_netlist::netlist::Netlist;
 use cg_plan::progress::Progress;
-use cg_run::{Finish, Names, Output, Reader, Refusal, Role, Status, Trouble, collect, put_out};
+use cg_run::{
+    Finish, Names, Output, Reader, Refusal, Role, Status, Trouble, collect, make_line, no_memory,
+    put_out,
+};
 use cg_shelf::Shelf;
 use cg_source::design::take_permitted;
 use cg_source::library::take_library;
@@ -68,13 +71,18 @@ pub fn run<S: Shelf>(
     size: u32,
     progress: &mut dyn Progress,
 ) -> Status
-    ensures runs { Runs (Gave S.gives) (demo_task size) (name_of names.now) (S.world shelf.old) (S.world shelf.new) result }
+    ensures runs { Runs (demo_task size) (name_of names.now) (S.world shelf.old) (S.world shelf.new) result }
 
     // A finished run gated the generated pipeline as its stimulus and the defaults say, and said the summary of it.
     ensures shown { IsTrue (S.world shelf.old).tells → FinishBy (IsDemo size (S.world shelf.old) (S.world shelf.new)) result }
 {
-    let found = read(alloc, shelf, names, size, progress);
-    put_out(alloc, shelf, names, found)
+    match make_line(alloc, names) {
+        Ok(line) => {
+            let found = read(alloc, shelf, names, size, progress);
+            put_out(shelf, names, found, line)
+        }
+        Err(_) => no_memory(shelf),
+    }
 }
 
 /// Loads nothing, and gates the pipeline.
@@ -85,7 +93,7 @@ fn read<S: Shelf>(
     size: u32,
     progress: &mut dyn Progress,
 ) -> Result<Output, Refusal>
-    ensures { Reads (Gave S.gives) demo_takes demo_stops demo_gives (name_of names.now) (record { size = size }) [] (S.world shelf.old)
+    ensures { Reads demo_takes demo_stops demo_gives (name_of names.now) (record { size = size }) [] (S.world shelf.old)
         (S.world shelf.new) result }
 {
     let demo = collect(alloc, shelf, names, &[], Demo { size })?;

@@ -9,7 +9,7 @@ ghost use Rattle.cg_gate.specs.Stops.{GatingMayFail, gating_stop};
 ghost use Rattle.cg_command_line.specs.Options.{NamesTest};
 ghost use Rattle.cg_run.specs.Names.{name_of};
 ghost use Rattle.cg_run.specs.Promise.{FinishBy};
-ghost use Rattle.cg_run.specs.Reads.{Gave, Reads};
+ghost use Rattle.cg_run.specs.Reads.{Reads};
 ghost use Rattle.cg_run.specs.Run.{Runs};
 ghost use Rattle.cg_run.specs.Verdict.{Concludes};
 ghost use Rattle.cg_source.specs.Design.{design_loads, design_of};
@@ -28,7 +28,8 @@ use cg_netlist::netlist::Netlist;
 use cg_plan::progress::Progress;
 use cg_report::watcher::Watcher;
 use cg_run::{
-    Finish, Names, Output, Owner, Refusal, Role, Status, Text, Trouble, collect, put_out,
+    Finish, Names, Output, Owner, Refusal, Role, Status, Text, Trouble, collect, make_line,
+    no_memory, put_out,
 };
 use cg_shelf::Shelf;
 use cg_source::design::{Design, DesignFiles, design_files};
@@ -46,7 +47,7 @@ pub fn run<S: Shelf>(
     progress: &mut dyn Progress,
 ) -> Status
     requires { NamesTest options }
-    ensures runs { Runs (Gave S.gives) (gate_task options (option_map (λ watcher. says watcher) watcher)) (name_of names.now) (S.world shelf.old)
+    ensures runs { Runs (gate_task options (option_map (λ watcher. says watcher) watcher)) (name_of names.now) (S.world shelf.old)
         (S.world shelf.new) result }
 
     // A finished run read a library, a netlist and the stimulus that was asked for, and wrote a netlist that shows what the one
@@ -54,8 +55,17 @@ pub fn run<S: Shelf>(
     ensures gated { IsTrue (S.world shelf.old).tells
         → FinishBy (IsGated options (option_map (λ watcher. says watcher) watcher) (name_of names.now) (S.world shelf.old) (S.world shelf.new)) result }
 {
-    let found = read(alloc, shelf, names, options, watcher, progress);
-    put_out(alloc, shelf, names, found)
+    match make_line(alloc, names) {
+        Ok(line) => {
+            let found = read(alloc, shelf, names, options, watcher, progress);
+            put_out(shelf, names, found, line)
+        }
+        Err(_) => {
+            drop(options);
+            drop(watcher);
+            no_memory(shelf)
+        }
+    }
 }
 
 /// Loads the files and reads them, and gates the netlist.
@@ -68,7 +78,7 @@ fn read<S: Shelf>(
     progress: &mut dyn Progress,
 ) -> Result<Output, Refusal>
     requires { NamesTest options }
-    ensures { Reads (Gave S.gives) gate_takes gate_stops (gate_gives (option_map (λ watcher. says watcher) watcher)) (name_of names.now) (gate_start options)
+    ensures { Reads gate_takes gate_stops (gate_gives (option_map (λ watcher. says watcher) watcher)) (name_of names.now) (gate_start options)
         (design_loads (is_loaded options.asked.stimulus) options.asked.hints) (S.world shelf.old) (S.world shelf.new) result }
 {
     let _ = options.prefix.bytes();

@@ -3,7 +3,6 @@
 ghost use Rattle.std.specs.Prelude.{◌≡◌, ◌++◌, decimal, IfOk, IsTrue, OnOk};
 ghost use Rattle.cg_run.specs.Names.{name_of};
 ghost use Rattle.cg_run.specs.Promise.{FinishBy};
-ghost use Rattle.cg_run.specs.Reads.{Gave};
 ghost use Rattle.cg_run.specs.Run.{Runs};
 ghost use Rattle.cg_run.specs.Verdict.{Answers};
 ghost use Rattle.cg_tool.specs.Lrat.{IsChecked, cause_text, check_finish, check_text, lrat_gives, lrat_start, lrat_stops, lrat_takes};
@@ -112,7 +111,7 @@ impl Mode for Lrat {
 
 /// Checks the log against the formula, over the shelf.
 pub fn run<S: Shelf>(alloc: Global, shelf: &mut S, names: &Names<'_>) -> Status
-    ensures runs { Runs (Gave S.gives) lrat_task (name_of names.now) (S.world shelf.old) (S.world shelf.new) result }
+    ensures runs { Runs lrat_task (name_of names.now) (S.world shelf.old) (S.world shelf.new) result }
 
     // A finished run checked the log that it was given, and what it accepts has no satisfying assignment.
     ensures checked { IsTrue (S.world shelf.old).tells

@@ -4,7 +4,7 @@ ghost use Rattle.std.specs.Prelude.{false, IfOk, IsSomeAnd, IsTrue, None};
 ghost use Rattle.std.specs.Option.{option_map};
 ghost use Rattle.cg_run.specs.Names.{name_of};
 ghost use Rattle.cg_run.specs.Promise.{FinishBy};
-ghost use Rattle.cg_run.specs.Reads.{Gave, Reads};
+ghost use Rattle.cg_run.specs.Reads.{Reads};
 ghost use Rattle.cg_run.specs.Run.{Runs};
 ghost use Rattle.cg_run.specs.Verdict.{Concludes};
 ghost use Rattle.cg_source.specs.Design.{design_loads, design_of};
@@ -17,7 +17,9 @@ use cg_netlist::netlist::Netlist;
 use cg_report::rows::push_rows;
 use cg_report::watched_rows::push_watched_rows;
 use cg_report::watcher::Watcher;
-use cg_run::{Finish, Names, Output, Refusal, Status, Trouble, collect, put_out};
+use cg_run::{
+    Finish, Names, Output, Refusal, Status, Trouble, collect, make_line, no_memory, put_out,
+};
 use cg_shelf::Shelf;
 use cg_source::design::{AnyNetlist, Design, DesignFiles, design_files};
 use cg_source::netlist::NetlistOptions;
@@ -34,15 +36,24 @@ pub fn run<S: Shelf>(
     options: NetlistOptions,
     watcher: Option<Box<dyn Watcher>>,
 ) -> Status
-    ensures runs { Runs (Gave S.gives) (sim_task form options (option_map (λ watcher. says watcher) watcher)) (name_of names.now) (S.world shelf.old)
+    ensures runs { Runs (sim_task form options (option_map (λ watcher. says watcher) watcher)) (name_of names.now) (S.world shelf.old)
         (S.world shelf.new) result }
 
     // A finished run said the lines of the one history on which the stimulus is played, and the watcher's line of its moments.
     ensures simulated { IsTrue (S.world shelf.old).tells
         → FinishBy (IsSimulated form options (option_map (λ watcher. says watcher) watcher) (name_of names.now) (S.world shelf.old) (S.world shelf.new)) result }
 {
-    let found = read(alloc, shelf, names, form, options, watcher);
-    put_out(alloc, shelf, names, found)
+    match make_line(alloc, names) {
+        Ok(line) => {
+            let found = read(alloc, shelf, names, form, options, watcher);
+            put_out(shelf, names, found, line)
+        }
+        Err(_) => {
+            drop(options);
+            drop(watcher);
+            no_memory(shelf)
+        }
+    }
 }
 
 /// Loads the files and reads them, and plays the stimulus.
@@ -54,7 +65,7 @@ fn read<S: Shelf>(
     options: NetlistOptions,
     watcher: Option<Box<dyn Watcher>>,
 ) -> Result<Output, Refusal>
-    ensures { Reads (Gave S.gives) sim_takes sim_stops (sim_gives (option_map (λ watcher. says watcher) watcher)) (name_of names.now) (sim_start form options)
+    ensures { Reads sim_takes sim_stops (sim_gives (option_map (λ watcher. says watcher) watcher)) (name_of names.now) (sim_start form options)
         (design_loads (has_file form) false) (S.world shelf.old) (S.world shelf.new) result }
 {
     let start = DesignFiles::start(alloc, AnyNetlist, options, Some(form));

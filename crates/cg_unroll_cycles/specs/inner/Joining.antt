@@ -5,7 +5,7 @@ use Rattle.cg_cell.specs.Domain.{Keeps, Seen}
 use Rattle.cg_aig.specs.Aig.{aig_ops}
 use Rattle.cg_claim.specs.Build.{aig_values}
 use Rattle.cg_machine.specs.Claims.{Literal}
-use Rattle.cg_hint_laws.specs.Build.{term_run}
+use Rattle.cg_claim.specs.form.Build.{term_run}
 
 -- one more term
 abbrev pub or_term_run : (ℕ → ℕ) → ℕ → List Literal → Seen → Run

@@ -6,7 +6,8 @@ use Rattle.cg_net.specs.NetSets.{is_in}
 use Rattle.cg_machine.specs.Machine.{MachineData}
 use Rattle.cg_claim.specs.Build.{aig_values}
 use Rattle.cg_claim.specs.Tables.{SameOn}
-use Rattle.cg_hint_laws.specs.Build.{Cycle, cycle_at, lay_next}
+use Rattle.cg_claim.specs.form.Build.{Cycle}
+use Rattle.cg_hint_laws.specs.Build.{cycle_at, lay_next}
 use Rattle.cg_hint_laws.specs.Leaves.{leaves_of}
 use Rattle.cg_hint_laws.specs.Question.{Question}
 use Rattle.cg_hint_laws.specs.Reach.{nets_of, states_of}

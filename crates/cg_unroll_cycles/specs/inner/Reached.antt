@@ -7,7 +7,8 @@ use Rattle.cg_claim.specs.Reach.{registers_of}
 use Rattle.cg_claim_reach.specs.Reached.{IsConeOf}
 use Rattle.cg_hint_laws.specs.Leaves.{leaves_of}
 use Rattle.cg_hint_laws.specs.Question.{Question}
-use Rattle.cg_hint_laws.specs.Reach.{Asked, asked_back, asked_of, reached_nets, reached_states}
+use Rattle.cg_claim.specs.form.Reach.{Asked}
+use Rattle.cg_hint_laws.specs.Reach.{asked_back, asked_of, reached_nets, reached_states}
 use Rattle.cg_unroll_cycles.specs.declared.asked.Asked.{Asked as AskedData}
 use Rattle.cg_unroll_cycles.specs.declared.reached.CycleReach.{CycleReach}
 use Rattle.cg_unroll_cycles.specs.declared.reached.Reached.{Reached}

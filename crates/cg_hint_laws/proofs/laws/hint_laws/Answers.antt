@@ -3,7 +3,7 @@ use Rattle.cg_hint_laws.proofs.AllSafe.{hints_are_safe}
 use Rattle.cg_hint_laws.proofs.Worthy.{turns_worthy}
 use Rattle.cg_hint_laws.proofs.ToldSo.{never_idle_is_so, refuted_is_so, registers_get}
 use Rattle.cg_hint_laws.proofs.Exactly.{inserted_exactly}
-use Rattle.cg_hint_laws.proofs.Goals.{goal_violates, hold_is_said, idle_is_said, never_is_tried}
+use Rattle.cg_hint_laws.proofs.Goals.{claims_are_forms, goal_violates, hold_is_said, idle_is_said, never_is_tried}
 use Rattle.cg_hint_laws.proofs.HintSafe.{hint_safe}
 use Rattle.cg_hint_laws.proofs.Tells.{hold_is_along, net_tells}
 
@@ -22,4 +22,5 @@ returns c = record {
   never_idle = never_idle_is_so;
   refuted = refuted_is_so;
   given = registers_get;
+  forms = claims_are_forms;
 }

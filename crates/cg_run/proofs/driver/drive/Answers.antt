@@ -1,16 +1,11 @@
 use Rattle.cg_run.specs.Names.{name_of}
-use Rattle.cg_run.specs.Reads.{Gave}
 use Rattle.cg_run.specs.Verdict.{task_of}
-use Rattle.cg_run.proofs.Closed.{gains, stands}
 use Rattle.cg_run.proofs.Completes.{completes}
-use Rattle.cg_run.proofs.Named.{load_named}
 use Rattle.cg_run.proofs.Others.{others}
-use Rattle.cg_run.proofs.Voice.{ended}
 use Rattle.cg_run.proofs.driver.drive.Goals as goal
 
 pub returns : goal.returns
 returns g c =
-    let gave = Gave g.S.Shelf.gives in
     let task = task_of g.M.Reader.takes g.M.Mode.stops g.M.Mode.gives c.args.mode c.args.loads.now in
     let names = name_of c.args.names.now in
     let before = g.S.Shelf.world c.args.shelf.now in
@@ -18,9 +13,6 @@ returns g c =
     let runs = c.run.ensures in
     record {
       runs = runs;
-      ended = ended gave task names before after c.run.result runs;
-      stands = stands gave task names before after c.run.result runs;
-      gains = gains gave task names before after c.run.result (load_named g.M.Reader.takes g.M.Mode.stops c.args.mode c.args.loads.now) runs;
-      others = others gave task names before after c.run.result runs;
-      comes = completes gave g.M.Reader.takes g.M.Mode.stops g.M.Mode.gives c.args.mode c.args.loads.now names before after c.run.result runs;
+      others = others task names before after c.run.result runs;
+      comes = completes g.M.Reader.takes g.M.Mode.stops g.M.Mode.gives c.args.mode c.args.loads.now names before after c.run.result runs;
     }

@@ -1,17 +1,14 @@
 use Rattle.std.proofs.Common.{map}
 use Rattle.std.specs.String.{string_bytes}
-use Rattle.cg_run.specs.Reads.{Gave}
 use Rattle.cg_command_line.specs.Jobs.{job_of}
 use Rattle.cg_command_line.proofs.NetlistForm.{job_by_name}
-use Rattle.cg_tool.proofs.FirstRefused.{job_first}
 use Rattle.cg_tool.proofs.JobsApart.{job_apart}
-use Rattle.cg_tool.proofs.Program.{job_checked, job_comes, job_ended, job_gains, job_gated, job_others, job_shown, job_simulated}
-use Rattle.cg_tool.proofs.Program.{job_stands, usage, usage_keeps, usage_only}
+use Rattle.cg_tool.proofs.Program.{job_checked, job_comes, job_gated, job_others, job_refused, job_runs, job_shown, job_simulated}
+use Rattle.cg_tool.proofs.Program.{usage, usage_keeps, usage_only}
 use Rattle.cg_tool.proofs.top.run.Goals as goal
 
 pub returns : goal.returns
 returns g c =
-    let gave = Gave g.S.Shelf.gives in
     let kinds = map (λ w. (goal.Watcher-dyn g (w.vtable, w.value)).says w.value) c.args.watchers.items in
     let called = map (λ w. (goal.Watcher-dyn g (w.vtable, w.value)).called w.value) c.args.watchers.items in
     let words = map string_bytes c.args.words.now in
@@ -21,22 +18,15 @@ returns g c =
     let result = c.run_words.result in
     let runs = c.run_words.ensures in
     record {
-      runs = runs;
-      usage = usage gave kinds job before after result runs;
-      usage_only = usage_only gave kinds job before after result runs;
-      usage_keeps = usage_keeps gave kinds job before after result runs;
-      ended = job_ended gave kinds job before after result runs;
-      first = job_first kinds job;
-      stands = job_stands gave kinds job before after result runs;
-      gains = job_gains gave kinds job before after result runs;
-      others = job_others gave kinds job before after result runs;
-      comes = job_comes gave kinds job before after result runs;
-      gated = job_gated gave kinds job before after result runs;
-      apart = job_apart called words;
-      formed = job_by_name called words;
-      reached = c.reach_laws.ensures.paths;
-      leaves = c.reach_laws.ensures.leaves;
-      simulated = job_simulated gave kinds job before after result runs;
-      shown = job_shown gave kinds job before after result runs;
-      checked = job_checked gave kinds job before after result runs;
+      runs = job_runs kinds job before after result runs;
+      usage = usage kinds job before after result runs;
+      usage_only = usage_only kinds job before after result runs;
+      usage_keeps = usage_keeps kinds job before after result runs;
+      others = job_others kinds job before after result runs;
+      comes = job_comes kinds job before after result runs;
+      gated = job_gated kinds job before after result runs;
+      simulated = job_simulated kinds job before after result runs;
+      shown = job_shown kinds job before after result runs;
+      checked = job_checked kinds job before after result runs;
+      laws = record { apart = job_apart called words; formed = job_by_name called words; refused = job_refused called words; reached = c.reach_laws.ensures.paths; leaves = c.reach_laws.ensures.leaves };
     }

@@ -1,6 +1,5 @@
 use Rattle.std.proofs.Common.{Option, subst}
 use Rattle.cg_run.specs.Names.{name_of}
-use Rattle.cg_run.specs.Reads.{Gave}
 use Rattle.cg_run.specs.Run.{Runs}
 use Rattle.cg_tool.specs.Gate.{gate_task}
 use Rattle.cg_tool.specs.Sim.{sim_task}
@@ -9,12 +8,12 @@ use Rattle.cg_tool.proofs.top.run_job.Goals as goal
 
 pub returns-in-Gate : goal.returns-in-Gate
 returns-in-Gate g c =
-    let R : Option Kind → Type 0 = λ kind. Runs (Gave g.S.Shelf.gives) (gate_task c.args.job.options kind) (name_of c.args.job.names) (g.S.Shelf.world c.args.shelf.now) (g.S.Shelf.world c.run.new.shelf) c.run.result in
+    let R : Option Kind → Type 0 = λ kind. Runs (gate_task c.args.job.options kind) (name_of c.args.job.names) (g.S.Shelf.world c.args.shelf.now) (g.S.Shelf.world c.run.new.shelf) c.run.result in
     rw c.in-Gate.is (subst R c.chosen-watcher.ensures c.run.ensures.runs)
 
 pub returns-in-Sim : goal.returns-in-Sim
 returns-in-Sim g c =
-    let R : Option Kind → Type 0 = λ kind. Runs (Gave g.S.Shelf.gives) (sim_task c.in-Sim.form c.args.job.options.netlist kind) (name_of c.args.job.names) (g.S.Shelf.world c.args.shelf.now) (g.S.Shelf.world c.run-in-Sim.new.shelf) c.run-in-Sim.result in
+    let R : Option Kind → Type 0 = λ kind. Runs (sim_task c.in-Sim.form c.args.job.options.netlist kind) (name_of c.args.job.names) (g.S.Shelf.world c.args.shelf.now) (g.S.Shelf.world c.run-in-Sim.new.shelf) c.run-in-Sim.result in
     rw c.in-Sim.is (subst R c.chosen-watcher.ensures c.run-in-Sim.ensures.runs)
 
 pub returns-in-Lrat : goal.returns-in-Lrat

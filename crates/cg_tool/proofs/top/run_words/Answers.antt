@@ -1,7 +1,6 @@
 use Rattle.std.proofs.Common.{Option, map, ap, sym, ◌∙◌, subst}
 use Rattle.std.specs.Option.{option_map}
 use Rattle.std.specs.String.{string_bytes}
-use Rattle.cg_run.specs.Reads.{Gave}
 use Rattle.cg_command_line.specs.Jobs.{JobWords, job_of, job_words}
 use Rattle.cg_command_line.proofs.TestInput.{job_names_test}
 use Rattle.cg_tool.specs.Program.{RunsWords}
@@ -20,7 +19,7 @@ returns-in-Ok-Some g c =
     let kinds = map (λ w. (goal.Watcher-dyn g (w.vtable, w.value)).says w.value) c.args.watchers.items in
     let before = g.S.Shelf.world c.args.shelf.now in
     let after = g.S.Shelf.world c.run_job.new.shelf in
-    let R : Option JobWords → Type 0 = λ job. RunsWords (Gave g.S.Shelf.gives) kinds job before after c.run_job.result in
+    let R : Option JobWords → Type 0 = λ job. RunsWords (task_by kinds) job before after c.run_job.result in
     let called = map (λ w. (goal.Watcher-dyn g (w.vtable, w.value)).called w.value) in
     let words = map string_bytes c.args.words.now in
     subst R (ap (option_map job_words) (sym c.in-Ok-Some.field-0-is) ∙ c.in-Ok-Some.ensures ∙ ap (λ watchers. job_of (called watchers) words) c.as_slice.ensures.value) c.run_job.ensures
@@ -30,7 +29,7 @@ returns-in-Ok-None g c =
     let kinds = map (λ w. (goal.Watcher-dyn g (w.vtable, w.value)).says w.value) c.args.watchers.items in
     let before = g.S.Shelf.world c.args.shelf.now in
     let after = g.S.Shelf.world c.complain.new.shelf in
-    let R : Option JobWords → Type 0 = λ job. RunsWords (Gave g.S.Shelf.gives) kinds job before after c.complain.result in
+    let R : Option JobWords → Type 0 = λ job. RunsWords (task_by kinds) job before after c.complain.result in
     let called = map (λ w. (goal.Watcher-dyn g (w.vtable, w.value)).called w.value) in
     let words = map string_bytes c.args.words.now in
     subst R (ap (option_map job_words) (sym c.in-Ok-None.field-0-is) ∙ c.in-Ok-None.ensures ∙ ap (λ watchers. job_of (called watchers) words) c.as_slice.ensures.value) (refused_words before after c.complain.result c.complain.ensures)
@@ -40,4 +39,4 @@ returns-in-Err g c =
     let kinds = map (λ w. (goal.Watcher-dyn g (w.vtable, w.value)).says w.value) c.args.watchers.items in
     let called = map (λ w. (goal.Watcher-dyn g (w.vtable, w.value)).called w.value) c.args.watchers.items in
     let words = map string_bytes c.args.words.now in
-    runs_unread (Gave g.S.Shelf.gives) kinds (job_of called words) (g.S.Shelf.world c.args.shelf.now) (g.S.Shelf.world c.complain-in-Err.new.shelf) c.complain-in-Err.result c.complain-in-Err.ensures
+    runs_unread kinds (job_of called words) (g.S.Shelf.world c.args.shelf.now) (g.S.Shelf.world c.no_memory.new.shelf) c.no_memory.result c.no_memory.ensures

@@ -1,3 +1,5 @@
+use Rattle.cg_aig.specs.Aig.{aig_ops}
+use Rattle.cg_cell.proofs.Building.{keeps_then}
 use Rattle.std.proofs.Common.{◌≡◌, ◌+◌, ℕ, sym, subst, arith}
 use Rattle.std.proofs.lemmas.Result.{err_from_is_err_and}
 use Rattle.cg_machine.specs.Machine.{MachineData}
@@ -32,3 +34,15 @@ returns-clause-laid c = λ s holds.
     let low = c.loop-behind.auto.behind-end c.requires.after in
     let e : c.loop-behind.behind ≡ q.after = omega (arith, low, c.loop-behind-test.false) in
     subst (λ n. HoldsCycle m q s n c.loop-behind.aig c.loop-behind.tables.last) e (c.loop-behind.invariant.laid s holds)
+
+pub loop-behind-preserved : goal.loop-behind-preserved
+loop-behind-preserved c =
+    let m : MachineData = c.args.unrolling.now.machine.now in
+    let q : Question = asked_by c.args.unrolling.now in
+    let i : ℕ = c.loop-behind.behind in
+    record {
+      first = c.loop-behind.invariant.first;
+      keeps = keeps_then aig_ops _ _ _ c.loop-behind.invariant.keeps c.in_ok-lay_cycle-2.ensures.keeps;
+      last = c.in_ok-lay_cycle-2.ensures.tables;
+      laid = λ s holds. c.in_ok-lay_cycle-2.ensures.laid s (subst (HoldsCycle m q s i c.loop-behind.aig) (sym c.swap.ensures.x_after) (c.loop-behind.invariant.laid s holds));
+    }

@@ -6,7 +6,7 @@ use Rattle.cg_cell.specs.Domain.{Seen}
 use Rattle.cg_cell.proofs.Evals.{valid_then}
 use Rattle.cg_aig.specs.Aig.{aig_ops}
 use Rattle.cg_claim.specs.Build.{aig_values}
-use Rattle.cg_hint_laws.specs.Build.{term_run}
+use Rattle.cg_claim.specs.form.Build.{term_run}
 use Rattle.cg_machine.specs.Claims.{Literal}
 use Rattle.cg_unroll.specs.Building.{Built, MayFail}
 use Rattle.cg_unroll_cycles.specs.inner.Joining.{or_term_run}

@@ -3,7 +3,7 @@ use Rattle.std.proofs.lemmas.Option.{slice_get-get_or}
 use Rattle.std.proofs.lemmas.Result.{err_from_is_err_and}
 use Rattle.cg_machine.specs.Machine.{MachineData}
 use Rattle.cg_net.proofs.TableLemmas.{drop_cons}
-use Rattle.cg_hint_laws.specs.Build.{Cycle}
+use Rattle.cg_claim.specs.form.Build.{Cycle}
 use Rattle.cg_unroll_cycles.specs.inner.Laid.{IsLayingNext, cycle_of}
 use Rattle.cg_unroll_cycles.proofs.NextLaid.{next_fails, next_on}
 use Rattle.cg_unroll_cycles.proofs.cycle.put_next.Goals as goal

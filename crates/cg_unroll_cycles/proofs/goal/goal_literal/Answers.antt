@@ -4,7 +4,8 @@ use Rattle.cg_cell.specs.Build.{Run}
 use Rattle.cg_cell.specs.Domain.{Seen}
 use Rattle.cg_machine.specs.Machine.{MachineData}
 use Rattle.cg_claim.specs.Build.{aig_values}
-use Rattle.cg_hint_laws.specs.Build.{Cycle, condition_run, goal_of}
+use Rattle.cg_claim.specs.form.Build.{Cycle, condition_run}
+use Rattle.cg_hint_laws.specs.Build.{goal_of}
 use Rattle.cg_hint_laws.specs.Question.{Question}
 use Rattle.cg_unroll.specs.Building.{Built, MayFail}
 use Rattle.cg_unroll.proofs.Building.{built_then, fails_first, fails_then, if_err, if_ok}

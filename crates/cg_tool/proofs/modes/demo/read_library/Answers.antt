@@ -7,4 +7,4 @@ use Rattle.cg_tool.proofs.modes.demo.read_library.Goals as goal
 pub returns : goal.returns
 returns c =
     let A : List ℕ → Type 0 = λ t. Answers (library_found t) c.take_library.result in
-    subst A (c.from_vec-text.ensures ∙ c.in_ok-from_slice.ensures.items ∙ c.library.ensures ∙ sym same_cells) c.take_library.ensures
+    subst A (c.from_vec-text.ensures ∙ c.in_ok-from_slice.ensures.items ∙ c.library.ensures ∙ sym same_cells) c.take_library.ensures.answers

@@ -3,7 +3,7 @@ use Rattle.std.specs.Option.{option_map}
 use Rattle.std.proofs.lemmas.Result.{err_from_is_err_and}
 use Rattle.cg_run.specs.declared.role.Role.{Role}
 use Rattle.cg_run.specs.Names.{name_of}
-use Rattle.cg_run.specs.Reads.{Collects, Gave}
+use Rattle.cg_run.specs.Reads.{Collects}
 use Rattle.cg_run.proofs.Halves.{reads_concluded, reads_refused}
 use Rattle.cg_source.specs.Stimulus.{is_loaded}
 use Rattle.cg_source.specs.Design.{design_loads}
@@ -18,26 +18,24 @@ pub returns-in_err-found : goal.returns-in_err-found
 returns-in_err-found g c =
     let p = err_from_is_err_and c.from_residual.result c.from_residual.ensures.1 in
     let kind : Option Kind = option_map (λ w. (goal.Watcher-dyn g (w.vtable, w.value)).says w.value) c.args.watcher in
-    let gave = Gave g.S.Shelf.gives in
     let names = name_of c.args.names.now in
     let options = c.args.options in
     let files = design_loads (is_loaded options.asked.stimulus) options.asked.hints in
     let before = g.S.Shelf.world c.args.shelf.now in
     let after = g.S.Shelf.world c.collect.new.shelf in
-    let C : DesignFiles Wanted → Type 0 = λ start. Collects gave gate_takes names start c.design_files-files.result.now before after (Err c.in_err-found.field-0.0) in
-    let L : List Role → Type 0 = λ files. Collects gave gate_takes names (gate_start options) files before after (Err c.in_err-found.field-0.0) in
-    rw (p.1, p.2) (reads_refused gave gate_takes gate_stops (gate_gives kind) names (gate_start options) files before after c.in_err-found.field-0.0 (subst L (c.design_files-files.ensures.files ∙ ap (λ b. design_loads b options.asked.hints) c.is_loaded-stimulus.ensures) (subst C c.start.ensures c.in_err-found.ensures)))
+    let C : DesignFiles Wanted → Type 0 = λ start. Collects gate_takes names start c.design_files-files.result.now before after (Err c.in_err-found.field-0.0) in
+    let L : List Role → Type 0 = λ files. Collects gate_takes names (gate_start options) files before after (Err c.in_err-found.field-0.0) in
+    rw (p.1, p.2) (reads_refused gate_takes gate_stops (gate_gives kind) names (gate_start options) files before after c.in_err-found.field-0.0 (subst L (c.design_files-files.ensures.files ∙ ap (λ b. design_loads b options.asked.hints) c.is_loaded-stimulus.ensures) (subst C c.start.ensures c.in_err-found.ensures)))
 
 pub finish-requires : goal.finish-requires
 finish-requires g c =
-    let gave = Gave g.S.Shelf.gives in
     let names = name_of c.args.names.now in
     let options = c.args.options in
     let files = design_loads (is_loaded options.asked.stimulus) options.asked.hints in
     let before = g.S.Shelf.world c.args.shelf.now in
     let after = g.S.Shelf.world c.collect.new.shelf in
-    let C : DesignFiles Wanted → Type 0 = λ start. Collects gave gate_takes names start c.design_files-files.result.now before after (Ok c.in_ok-found.found) in
-    let L : List Role → Type 0 = λ files. Collects gave gate_takes names (gate_start options) files before after (Ok c.in_ok-found.found) in
+    let C : DesignFiles Wanted → Type 0 = λ start. Collects gate_takes names start c.design_files-files.result.now before after (Ok c.in_ok-found.found) in
+    let L : List Role → Type 0 = λ files. Collects gate_takes names (gate_start options) files before after (Ok c.in_ok-found.found) in
     let collects = subst L (c.design_files-files.ensures.files ∙ ap (λ b. design_loads b options.asked.hints) c.is_loaded-stimulus.ensures) (subst C c.start.ensures c.in_ok-found.ensures) in
     read_may options collects.given c.in_ok-found.found c.bytes.ensures.name c.requires collects.cause
 
@@ -45,25 +43,23 @@ pub returns-in_err-finish : goal.returns-in_err-finish
 returns-in_err-finish g c =
     let p = err_from_is_err_and c.from_residual-in_err-finish.result c.from_residual-in_err-finish.ensures.1 in
     let kind : Option Kind = option_map (λ w. (goal.Watcher-dyn g (w.vtable, w.value)).says w.value) c.args.watcher in
-    let gave = Gave g.S.Shelf.gives in
     let names = name_of c.args.names.now in
     let options = c.args.options in
     let files = design_loads (is_loaded options.asked.stimulus) options.asked.hints in
     let before = g.S.Shelf.world c.args.shelf.now in
     let after = g.S.Shelf.world c.collect.new.shelf in
-    let C : DesignFiles Wanted → Type 0 = λ start. Collects gave gate_takes names start c.design_files-files.result.now before after (Ok c.in_ok-found.found) in
-    let L : List Role → Type 0 = λ files. Collects gave gate_takes names (gate_start options) files before after (Ok c.in_ok-found.found) in
-    rw (p.1, p.2) (reads_concluded gave gate_takes gate_stops (gate_gives kind) names (gate_start options) files before after c.in_ok-found.found (Err c.in_err-finish.field-0.0) (subst L (c.design_files-files.ensures.files ∙ ap (λ b. design_loads b options.asked.hints) c.is_loaded-stimulus.ensures) (subst C c.start.ensures c.in_ok-found.ensures)) c.in_err-finish.ensures)
+    let C : DesignFiles Wanted → Type 0 = λ start. Collects gate_takes names start c.design_files-files.result.now before after (Ok c.in_ok-found.found) in
+    let L : List Role → Type 0 = λ files. Collects gate_takes names (gate_start options) files before after (Ok c.in_ok-found.found) in
+    rw (p.1, p.2) (reads_concluded gate_takes gate_stops (gate_gives kind) names (gate_start options) files before after c.in_ok-found.found (Err c.in_err-finish.field-0.0) (subst L (c.design_files-files.ensures.files ∙ ap (λ b. design_loads b options.asked.hints) c.is_loaded-stimulus.ensures) (subst C c.start.ensures c.in_ok-found.ensures)) c.in_err-finish.ensures)
 
 pub returns : goal.returns
 returns g c =
     let kind : Option Kind = option_map (λ w. (goal.Watcher-dyn g (w.vtable, w.value)).says w.value) c.args.watcher in
-    let gave = Gave g.S.Shelf.gives in
     let names = name_of c.args.names.now in
     let options = c.args.options in
     let files = design_loads (is_loaded options.asked.stimulus) options.asked.hints in
     let before = g.S.Shelf.world c.args.shelf.now in
     let after = g.S.Shelf.world c.collect.new.shelf in
-    let C : DesignFiles Wanted → Type 0 = λ start. Collects gave gate_takes names start c.design_files-files.result.now before after (Ok c.in_ok-found.found) in
-    let L : List Role → Type 0 = λ files. Collects gave gate_takes names (gate_start options) files before after (Ok c.in_ok-found.found) in
-    reads_concluded gave gate_takes gate_stops (gate_gives kind) names (gate_start options) files before after c.in_ok-found.found (Ok c.in_ok-finish.field-0) (subst L (c.design_files-files.ensures.files ∙ ap (λ b. design_loads b options.asked.hints) c.is_loaded-stimulus.ensures) (subst C c.start.ensures c.in_ok-found.ensures)) c.in_ok-finish.ensures
+    let C : DesignFiles Wanted → Type 0 = λ start. Collects gate_takes names start c.design_files-files.result.now before after (Ok c.in_ok-found.found) in
+    let L : List Role → Type 0 = λ files. Collects gate_takes names (gate_start options) files before after (Ok c.in_ok-found.found) in
+    reads_concluded gate_takes gate_stops (gate_gives kind) names (gate_start options) files before after c.in_ok-found.found (Ok c.in_ok-finish.field-0) (subst L (c.design_files-files.ensures.files ∙ ap (λ b. design_loads b options.asked.hints) c.is_loaded-stimulus.ensures) (subst C c.start.ensures c.in_ok-found.ensures)) c.in_ok-finish.ensures

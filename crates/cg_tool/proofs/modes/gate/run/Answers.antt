@@ -1,11 +1,10 @@
 use Rattle.std.proofs.Common.{Option}
 use Rattle.std.specs.Option.{option_map}
 use Rattle.cg_run.specs.Names.{name_of}
-use Rattle.cg_run.specs.Reads.{Gave}
 use Rattle.cg_run.specs.Run.{Runs}
 use Rattle.cg_run.proofs.Finished.{Finishes, finish_map, finished_so}
 use Rattle.cg_run.proofs.Halves.{runs_of_halves}
-use Rattle.cg_run.proofs.Voice.{ended}
+use Rattle.cg_run.proofs.Unbegun.{runs_unbegun}
 use Rattle.cg_source.specs.Stimulus.{is_loaded}
 use Rattle.cg_source.specs.Design.{design_loads}
 use Rattle.cg_tool.specs.Gate.{gate_gives, gate_start, gate_stops, gate_takes, gate_task}
@@ -14,10 +13,9 @@ use Rattle.cg_tool.specs.Watching.{Kind}
 use Rattle.cg_tool.proofs.GateMeans.{gated_means}
 use Rattle.cg_tool.proofs.modes.gate.run.Goals as goal
 
-pub returns : goal.returns
-returns g c =
+pub returns-in-Ok : goal.returns-in-Ok
+returns-in-Ok g c =
     let kind : Option Kind = option_map (λ w. (goal.Watcher-dyn g (w.vtable, w.value)).says w.value) c.args.watcher in
-    let gave = Gave g.S.Shelf.gives in
     let names = name_of c.args.names.now in
     let options = c.args.options in
     let before = g.S.Shelf.world c.args.shelf.now in
@@ -25,8 +23,23 @@ returns g c =
     let after = g.S.Shelf.world c.put_out.new.shelf in
     let task = gate_task options kind in
     let result = c.put_out.result in
-    let runs : Runs gave task names before after result = runs_of_halves gave gate_takes gate_stops (gate_gives kind) names (gate_start options) (design_loads (is_loaded options.asked.stimulus) options.asked.hints) before middle c.read-found.result after result c.read-found.ensures c.put_out.ensures in
+    let runs : Runs task names before after result = runs_of_halves gate_takes gate_stops (gate_gives kind) names (gate_start options) (design_loads (is_loaded options.asked.stimulus) options.asked.hints) before middle c.read-found.result after result c.read-found.ensures c.put_out.ensures in
     record {
       runs = runs;
-      gated = λ t. finish_map (λ finish. Finishes task names before after finish) (IsGated options kind names before after) result (gated_means options kind names before after) (finished_so gave task names before after result (ended gave task names before after result runs) t);
+      gated = λ t. finish_map (λ finish. Finishes task names before after finish) (IsGated options kind names before after) result (gated_means options kind names before after) (finished_so task names before after result runs t);
+    }
+
+pub returns-in-Err : goal.returns-in-Err
+returns-in-Err g c =
+    let kind : Option Kind = option_map (λ w. (goal.Watcher-dyn g (w.vtable, w.value)).says w.value) c.args.watcher in
+    let names = name_of c.args.names.now in
+    let options = c.args.options in
+    let before = g.S.Shelf.world c.args.shelf.now in
+    let after = g.S.Shelf.world c.no_memory.new.shelf in
+    let task = gate_task options kind in
+    let result = c.no_memory.result in
+    let runs : Runs task names before after result = runs_unbegun gate_takes gate_stops (gate_gives kind) names (gate_start options) (design_loads (is_loaded options.asked.stimulus) options.asked.hints) before after result c.no_memory.ensures in
+    record {
+      runs = runs;
+      gated = λ t. finish_map (λ finish. Finishes task names before after finish) (IsGated options kind names before after) result (gated_means options kind names before after) (finished_so task names before after result runs t);
     }

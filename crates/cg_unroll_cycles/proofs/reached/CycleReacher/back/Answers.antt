@@ -2,7 +2,8 @@ use Rattle.std.proofs.Common.{◌<◌, length, sym, subst}
 use Rattle.std.specs.List.{All}
 use Rattle.cg_claim_reach.proofs.RootsThere.{all_there}
 use Rattle.cg_hint_laws.specs.Question.{Question}
-use Rattle.cg_hint_laws.specs.Reach.{Asked as AskedOf, asked_back}
+use Rattle.cg_claim.specs.form.Reach.{Asked as AskedOf}
+use Rattle.cg_hint_laws.specs.Reach.{asked_back}
 use Rattle.cg_machine.specs.Machine.{MachineData}
 use Rattle.cg_unroll.proofs.Building.{if_ok}
 use Rattle.cg_unroll_cycles.specs.Asking.{question_of}

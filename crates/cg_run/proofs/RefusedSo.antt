@@ -1,6 +1,6 @@
 -- The end of a run, from its complaint.
 use Rattle.std.proofs.Common.{◌≡◌, ◌≤◌, ◌<◌, ℕ, true, false, List, length, refl, subst, arith}
-use Rattle.std.specs.Prelude.{codes}
+use Rattle.std.specs.Prelude.{IfErr, Ok, Err, Result, codes}
 use Rattle.cg_shelf.specs.World.{World}
 use Rattle.cg_run.specs.declared.refusal.Refusal.{Refusal}
 use Rattle.cg_run.specs.declared.refusal.Refusal.TheVariants as refusals
@@ -8,7 +8,8 @@ use Rattle.cg_run.specs.declared.role.Role.{Role}
 use Rattle.cg_run.specs.declared.status.Status.{Status}
 use Rattle.cg_run.specs.declared.status.Status.TheVariants as statuses
 use Rattle.cg_run.specs.Refusal.{HasLine, HasRoom, complaint_line, complaint_text, status_of}
-use Rattle.cg_run.specs.Run.{Complains, Refuses}
+use Rattle.cg_run.specs.Run.{Complains, Refuses, Tries}
+use Rattle.cg_run.specs.declared.writing.Output.{Output}
 
 -- one line complained, as that of another text and status
 pub complains_as : {line : List ℕ} {status : Status} (text : List ℕ) (other : Status) (before after : World) (result : Status) → line ≡ text → status ≡ other → Complains line status before after result → Complains text other before after result
@@ -48,3 +49,13 @@ refuses_short names refusal room before after result has short complains = recor
   is_there = short_line names room refusal has short;
   complains = complains;
 }
+
+-- a refusal that reading came to is the one that is complained of, as it is where its line has room
+pub complained_so : (names : Role → List ℕ) (room : ℕ) (found : Result Output Refusal) (refusal : Refusal) (before between after : World) (result : Status) → Tries names found before between (Err refusal)
+    → (length (complaint_text names refusal) ≤ room → Complains (complaint_text names refusal) (status_of refusal) between after result)
+    → IfErr found (λ r. length (complaint_text names r) ≤ room → Complains (complaint_text names r) (status_of r) before after result)
+complained_so names room (Ok output) refusal before between after result tries own = tt
+complained_so names room (Err found) refusal before between after result tries own =
+    let same : refusal ≡ found = cc in
+    let C : Refusal → World → Type 0 = λ r w. length (complaint_text names r) ≤ room → Complains (complaint_text names r) (status_of r) w after result in
+    subst (C found) tries.1 (subst (λ r. C r between) same own)

@@ -1,7 +1,7 @@
 //! What a mode puts out, and the writing half of a run: what reading came to is written, the stores in order and then the say, of
 //! which the first that is refused ends them; or one line of complaint tells why not.
 
-ghost use Rattle.std.specs.Prelude.{◌≡◌, ◌≤◌, ◌+◌, [], codes, length, vec_capacity, IfOk};
+ghost use Rattle.std.specs.Prelude.{◌≡◌, ◌≤◌, ◌+◌, [], codes, length, vec_capacity, IfErr, IfOk};
 ghost use Rattle.cg_run.specs.Names.{files_of, longest_name, name_of};
 ghost use Rattle.cg_run.specs.Refusal.{HasRoom, complaint_line, complaint_text, status_of};
 ghost use Rattle.cg_run.specs.Run.{Complains, PutsOut, Refuses, Tries};
@@ -84,7 +84,10 @@ pub fn put_out<S: Shelf>(
 ) -> Status
     requires empty { line.items ≡ [] }
     requires room { (refusal : Refusal) → HasRoom (name_of names.now) (vec_capacity line) refusal }
-    ensures { PutsOut (name_of names.now) found (S.world shelf.old) (S.world shelf.new) result }
+    ensures puts { PutsOut (name_of names.now) found (S.world shelf.old) (S.world shelf.new) result }
+    // A refusal for whose line there is room is complained as it is, a content too.
+    ensures roomy { IfErr found (λ refusal. length (complaint_text (name_of names.now) refusal) ≤ vec_capacity line
+        → Complains (complaint_text (name_of names.now) refusal) (status_of refusal) (S.world shelf.old) (S.world shelf.new) result) }
 {
     let mut line = line;
     match try_to_write(shelf, names, found) {

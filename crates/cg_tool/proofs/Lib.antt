@@ -10,3 +10,4 @@ pub mod DemoMeans
 pub mod SimMeans
 pub mod JobsApart
 pub mod Program
+pub mod Said

@@ -6,4 +6,6 @@ pub mod Wanted
 pub mod Gate
 pub mod Gated
 pub mod Demo
+pub mod Numbers
+pub mod JobLaws
 pub mod Program

@@ -8,16 +8,15 @@ use Rattle.cg_run.specs.Run.{Complains, Runs}
 use Rattle.cg_run.specs.Verdict.{Task}
 use Rattle.cg_run.specs.declared.status.Status.{Status}
 use Rattle.cg_run.specs.declared.status.Status.TheVariants as statuses
-use Rattle.cg_command_line.specs.Jobs.{IsByName, JobWords}
+use Rattle.cg_command_line.specs.Jobs.{JobWords}
 use Rattle.cg_command_line.specs.declared.job.Mode.{Mode}
 use Rattle.cg_command_line.specs.declared.job.Mode.TheVariants.{Demo, Gate, Lrat, Sim}
 use Rattle.cg_command_line.specs.declared.options.Options.{Options}
-use Rattle.cg_reach_laws.specs.Laws.{LeavesAreLedTo, PathsReach}
-use Rattle.cg_source.specs.Netlist.{RefusesForFirstFaults}
 use Rattle.cg_source.specs.declared.stimulus.StimulusForm.{StimulusForm}
 use Rattle.cg_tool.specs.Demo.{IsDemo, demo_task}
 use Rattle.cg_tool.specs.Gate.{gate_task}
-use Rattle.cg_tool.specs.Gated.{AreApart, IsGated}
+use Rattle.cg_tool.specs.Gated.{IsGated}
+use Rattle.cg_tool.specs.JobLaws.{JobLaws}
 use Rattle.cg_tool.specs.Lrat.{IsChecked, lrat_task}
 use Rattle.cg_tool.specs.Sim.{IsSimulated, sim_task}
 use Rattle.cg_tool.specs.Trials.{first_refusal}
@@ -58,17 +57,6 @@ IsOrNoMemory expected result = result ≡ expected
 abbrev pub KeepsAll : Option JobWords → World → World → Type 0
 KeepsAll None before after = after.held ≡ before.held
 KeepsAll (Some job) before after = ⊤
-
--- Laws of a job, whatever becomes of its run.
-pub record JobLaws (asked : Option JobWords) : Type 0 where
-  -- the files that it stores have different names, so that each holds its text
-  pub apart : IfSome asked (λ job. job.mode ≡ Gate → AreApart job.options.asked (file_of job.files))
-  -- a netlist is read in the form that its name has, and its text is refused for its first fault, with each library that was found
-  pub formed : IfSome asked IsByName
-  pub refused : IfSome asked (λ job. RefusesForFirstFaults job.options.netlist)
-  -- the claims by which registers get their enables reach what paths lead to from their goals, and so are their leaves
-  pub reached : PathsReach
-  pub leaves : LeavesAreLedTo
 
 -- What the program promises of a run over a shelf, where its words ask for this job, if for any, and watchers of these kinds are
 -- there.

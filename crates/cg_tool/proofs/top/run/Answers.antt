@@ -5,6 +5,7 @@ use Rattle.cg_command_line.proofs.NetlistForm.{job_by_name}
 use Rattle.cg_tool.proofs.JobsApart.{job_apart}
 use Rattle.cg_tool.proofs.Program.{job_checked, job_comes, job_gated, job_others, job_refused, job_runs, job_shown, job_simulated}
 use Rattle.cg_tool.proofs.Program.{usage, usage_keeps, usage_only}
+use Rattle.cg_tool.proofs.Said.{check_as_said, has_these_bounds, has_these_limits, read_as_said}
 use Rattle.cg_tool.proofs.top.run.Goals as goal
 
 pub returns : goal.returns
@@ -28,5 +29,5 @@ returns g c =
       simulated = job_simulated kinds job before after result runs;
       shown = job_shown kinds job before after result runs;
       checked = job_checked kinds job before after result runs;
-      laws = record { apart = job_apart called words; formed = job_by_name called words; refused = job_refused called words; reached = c.reach_laws.ensures.paths; leaves = c.reach_laws.ensures.leaves };
+      laws = record { apart = job_apart called words; formed = job_by_name called words; refused = job_refused called words; said = read_as_said; checked = check_as_said; limits = has_these_limits; bounds = has_these_bounds; reached = c.reach_laws.ensures.paths; leaves = c.reach_laws.ensures.leaves };
     }

@@ -3,7 +3,7 @@ use Rattle.std.specs.Option.{option_map}
 use Rattle.std.specs.String.{string_bytes}
 use Rattle.cg_command_line.specs.Jobs.{JobWords, job_of, job_words}
 use Rattle.cg_command_line.proofs.TestInput.{job_names_test}
-use Rattle.cg_tool.specs.Program.{RunsWords}
+use Rattle.cg_tool.specs.Program.{RunsWords, task_by}
 use Rattle.cg_tool.proofs.Program.{refused_words, runs_unread}
 use Rattle.cg_tool.proofs.top.run_words.Goals as goal
 

@@ -17,7 +17,7 @@ returns-in-Ok g c =
     let after = g.S.Shelf.world c.put_out.new.shelf in
     let task = demo_task size in
     let result = c.put_out.result in
-    let runs : Runs task names before after result = runs_of_halves demo_takes demo_stops demo_gives names (record { size = size }) [] before middle c.read-found.result after result c.read-found.ensures c.put_out.ensures in
+    let runs : Runs task names before after result = runs_of_halves demo_takes demo_stops demo_gives names (record { size = size }) [] before middle c.read-found.result after result c.read-found.ensures c.put_out.ensures.puts in
     record {
       runs = runs;
       shown = λ t. finish_map (λ finish. Finishes task names before after finish) (IsDemo size before after) result (demo_means size names before after) (finished_so task names before after result runs t);

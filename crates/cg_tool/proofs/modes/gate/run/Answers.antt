@@ -23,7 +23,7 @@ returns-in-Ok g c =
     let after = g.S.Shelf.world c.put_out.new.shelf in
     let task = gate_task options kind in
     let result = c.put_out.result in
-    let runs : Runs task names before after result = runs_of_halves gate_takes gate_stops (gate_gives kind) names (gate_start options) (design_loads (is_loaded options.asked.stimulus) options.asked.hints) before middle c.read-found.result after result c.read-found.ensures c.put_out.ensures in
+    let runs : Runs task names before after result = runs_of_halves gate_takes gate_stops (gate_gives kind) names (gate_start options) (design_loads (is_loaded options.asked.stimulus) options.asked.hints) before middle c.read-found.result after result c.read-found.ensures c.put_out.ensures.puts in
     record {
       runs = runs;
       gated = λ t. finish_map (λ finish. Finishes task names before after finish) (IsGated options kind names before after) result (gated_means options kind names before after) (finished_so task names before after result runs t);

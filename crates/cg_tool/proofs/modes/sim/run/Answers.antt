@@ -23,7 +23,7 @@ returns-in-Ok g c =
     let after = g.S.Shelf.world c.put_out.new.shelf in
     let task = sim_task c.args.form c.args.options kind in
     let result = c.put_out.result in
-    let runs : Runs task names before after result = runs_of_halves sim_takes sim_stops (sim_gives kind) names (sim_start c.args.form c.args.options) files before middle c.read-found.result after result c.read-found.ensures c.put_out.ensures in
+    let runs : Runs task names before after result = runs_of_halves sim_takes sim_stops (sim_gives kind) names (sim_start c.args.form c.args.options) files before middle c.read-found.result after result c.read-found.ensures c.put_out.ensures.puts in
     record {
       runs = runs;
       simulated = λ t. finish_map (λ finish. Finishes task names before after finish) (IsSimulated c.args.form c.args.options kind names before after) result (simulated_means c.args.form c.args.options kind names before after) (finished_so task names before after result runs t);

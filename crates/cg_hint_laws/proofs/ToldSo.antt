@@ -128,7 +128,7 @@ pub record IsFirst {T : Type 0} (p : T → Bool) (xs : List T) (x : T) : Type 0 
   pub passes : p x ≡ true
   pub none_before : (k : ℕ) (y : T) → k < place → slice_get xs k ≡ Some y → p y ≡ false
 
-first_found : {T : Type 0} (p : T → Bool) (xs : List T) (x : T) → find p xs ≡ Some x → IsFirst p xs x
+pub first_found : {T : Type 0} (p : T → Bool) (xs : List T) (x : T) → find p xs ≡ Some x → IsFirst p xs x
 first_found p [] x is = absurd (cc)
 first_found {T = T} p (y ∷ ys) x is = go (p y) refl is (first_found p ys x)
   where
@@ -146,7 +146,7 @@ first_found {T = T} p (y ∷ ys) x is = go (p y) refl is (first_found p ys x)
 
 module _ (m : MachineData) (h : Hint) (good : IsMachine m) (fits : Fits m h) where
   -- a condition that is never 0 is 1
-  is_one : is_never m (idle_question h.terms) ≡ true → (s x : List Bool) → IsState m s → IsInputs m x → condition_at (values m s x) h.terms ≡ true
+  pub is_one : is_never m (idle_question h.terms) ≡ true → (s x : List Bool) → IsState m s → IsInputs m x → condition_at (values m s x) h.terms ≡ true
   is_one never s x long ins = go (condition_at (values m s x) h.terms) refl
     where
       go : (b : Bool) → condition_at (values m s x) h.terms ≡ b → b ≡ true
@@ -158,17 +158,17 @@ module _ (m : MachineData) (h : Hint) (good : IsMachine m) (fits : Fits m h) whe
           absurd (both_ways _ (zero one.bits one.long) one.one)
 
   -- a register keeps its bit exactly where its claim is never violated
-  keeps_so : (r : ℕ) → is_in h.regs r ≡ true → claim_holds m h (Hold r) ≡ true → HintHold m h.terms h.after r
+  pub keeps_so : (r : ℕ) → is_in h.regs r ≡ true → claim_holds m h (Hold r) ≡ true → HintHold m h.terms h.after r
   keeps_so r among never =
       let below = registers_below m h good fits r among in
       (hold_is_said m h.terms h.after r good fits.literals below).0 ((never_is_tried m (hold_question h.terms h.after r) good (hold_asked m h.terms h.after r fits.literals below)).0 never)
 
-  so_keeps : (r : ℕ) → is_in h.regs r ≡ true → HintHold m h.terms h.after r → claim_holds m h (Hold r) ≡ true
+  pub so_keeps : (r : ℕ) → is_in h.regs r ≡ true → HintHold m h.terms h.after r → claim_holds m h (Hold r) ≡ true
   so_keeps r among holds =
       let below = registers_below m h good fits r among in
       (never_is_tried m (hold_question h.terms h.after r) good (hold_asked m h.terms h.after r fits.literals below)).1 ((hold_is_said m h.terms h.after r good fits.literals below).1 holds)
 
-  refuted_first : (claim : HintClaim) → find (λ (c : HintClaim). not (claim_holds m h c)) (hold_claims h) ≡ Some claim → IsFirstRefuted m h claim
+  pub refuted_first : (claim : HintClaim) → find (λ (c : HintClaim). not (claim_holds m h c)) (hold_claims h) ≡ Some claim → IsFirstRefuted m h claim
   refuted_first claim found =
       let f = first_found (λ (c : HintClaim). not (claim_holds m h c)) (hold_claims h) claim found in
       let r = mapped_at Hold h.regs f.place claim f.at in

@@ -19,24 +19,10 @@ use Rattle.cg_machine.proofs.Extended.{net_kept}
 use Rattle.cg_stage_laws.proofs.Joins.{two_nets}
 use Rattle.cg_hint_laws.specs.Effects.{AddedNets, and_then, before_nets, delayed_by, for_each, joined_with}
 use Rattle.cg_hint_laws.specs.Answers.{MayFail}
-use Rattle.cg_hints.specs.inner.Adding.{AddsAs, Keeps}
+use Rattle.cg_hints.specs.inner.Adding.{AddsAs}
 
 abbrev pub with_net : MachineData → ℕ → Added
 with_net n net = record { machine = n; net = net }
-
-pub keeps_same : (m n : MachineData) → IsMachine m → n ≡ m → Keeps m n
-keeps_same m n good is = subst (Keeps m) (sym is) (record { good = good; extends = extends_self m })
-
-pub keeps_then : (m n o : MachineData) → Keeps m n → Keeps n o → Keeps m o
-keeps_then m n o k l = record { good = l.good; extends = extends_then m n o k.extends l.extends }
-
-pub gate_keeps : (m n : MachineData) (kind : FitKind) (inputs : List ℕ) (r : Result ℕ AddFault) → IsMachine m → IfOk r (λ net. HasGate m kind inputs (with_net n net)) → OnErr r (n ≡ m) → Keeps m n
-gate_keeps m n kind inputs (Ok net) good there same = record { good = there.good; extends = there.extends }
-gate_keeps m n kind inputs (Err fault) good there same = keeps_same m n good same
-
-pub delay_keeps : (m n : MachineData) (x : ℕ) (r : Result ℕ AddFault) → IsMachine m → IfOk r (λ net. HasDelay m x (with_net n net)) → OnErr r (n ≡ m) → Keeps m n
-delay_keeps m n x (Ok net) good there same = record { good = there.good; extends = there.extends }
-delay_keeps m n x (Err fault) good there same = keeps_same m n good same
 
 -- a fault of a first addition is one of all
 pub passes_then : {A B : Type 0} (wanted : Result A AddFault) (later : A → Result B AddFault) (fault : AddFault) → MayFail wanted fault → MayFail (and_then wanted later) fault

@@ -7,7 +7,7 @@ pub mod Naming
 pub mod Noted
 pub mod Measuring
 pub mod Deciding
-pub mod Appended
 pub mod Adding
 pub mod Judging
 pub mod Tried
+pub mod Telling

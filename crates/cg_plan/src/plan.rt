@@ -1,7 +1,8 @@
 //! The plan of a machine, in the making and whole.
 
-ghost use Rattle.std.specs.Prelude.{◌≡◌, IfOk, IfErr, ◌+◌, length, MatchResult, OnOk, true};
+ghost use Rattle.std.specs.Prelude.{◌≡◌, ◌+◌, [], length, IfOk, IfErr, OnOk, true};
 ghost use Rattle.std.specs.Option.{option_copied};
+ghost use Rattle.cg_hold.specs.Progress.{HearsAll, HearsCourse, HearsTries, HearsWhole};
 ghost use Rattle.cg_stage_list_laws.specs.Literals.{FitZeroCounts};
 ghost use Rattle.cg_plan_laws.specs.Cleared.{AllCleared, IsCleared};
 ghost use Rattle.cg_plan_laws.specs.Plan.{plan_of, rounds, try_all, try_one};
@@ -9,7 +10,6 @@ ghost use Rattle.cg_plan_laws.specs.Reported.{IsPlan, PlanMayFail};
 ghost use Rattle.cg_plan_laws.specs.declared.settings.Settings.{Settings};
 ghost use Rattle.cg_plan.specs.Planning.{AreWritable, IsSafePlan, told};
 ghost use Rattle.cg_stage_list_laws.specs.Fit.{AllFit};
-ghost use Rattle.cg_netlist.specs.declared.fault.AddFault.TheVariants.{NoMemory};
 ghost use Rattle.cg_plan.specs.inner.Drafting.{IsDraft, Leads, MayStop, StayCleared, StillFit, all_parts, earlier_by, kept, round_list, unbegun};
 ghost use Rattle.cg_claim_reach.specs.Fanout.{Knows};
 ghost use Rattle.cg_stage_laws.specs.Stages.{Fits};
@@ -19,6 +19,7 @@ use cg_cell::library::Library;
 use cg_claim_reach::fanout::Fanout;
 use cg_hold::candidates::candidates;
 use cg_hold::progress::Progress;
+use cg_judge::trying::next_number;
 use cg_list::Seq;
 use cg_machine::machine::Machine;
 use cg_machine::stage::{Earlier, Stage, StageKind};
@@ -54,8 +55,8 @@ pub struct Plan {
 ///
 /// The counts are one number for each net of the machine, none above the number of rows.
 ///
-/// Of each register that the search for hold stages looks at, and of each stage, `progress` is told before; and it is told when
-/// the planning ends, whatever ends it.
+/// Of each register that the search for hold stages looks at, and of each stage, `progress` is told before, in order; and once and last it
+/// is told that the planning has ended, whatever ends it.
 ///
 /// It is refused where a stage would be, or a claim of a register and a literal that are looked at for the hold stages, by the
 /// limit that comes first in the order of the plan.
@@ -72,6 +73,8 @@ pub fn make_plan(
     ensures writable { IfOk result (λ plan. AreWritable plan.certificates) }
     ensures safe { IfOk result (λ plan. IsSafePlan library.now settings.now machine plan.machine) }
     ensures fault { IfErr result (PlanMayFail (plan_of library.now settings.now (option_copied counts.entry) machine).limit) }
+    ensures told { HearsCourse machine.own_registers (stands progress.old) (stands progress.new) }
+    ensures whole { IfOk result (λ plan. HearsWhole machine.own_registers (length plan.stages) (stands progress.old) (stands progress.new)) }
 {
     let _netlist = machine.netlist();
     let found = match candidates(alloc, &machine, settings.width, counts, progress) {
@@ -135,7 +138,8 @@ struct Draft {
 impl Draft {
     /// A plan of which nothing was tried.
     pub fn new(alloc: Global, machine: Machine) -> Draft
-        ensures { (settings : Settings) → IsDraft settings (unbegun machine) result }
+        ensures draft { (settings : Settings) → IsDraft settings (unbegun machine) result }
+        ensures none { result.stages ≡ [] }
     {
         Draft {
             alloc,
@@ -169,6 +173,8 @@ impl Draft {
         requires cleared { AllCleared self.old.machine rules.now.settings.now.width holds }
         ensures leads { OnOk result (Leads rules.now.settings.now (all_parts rules.now.library.now rules.now.settings.now holds) self.old self.new) }
         ensures fault { IfErr result (MayStop rules.now.settings.now (all_parts rules.now.library.now rules.now.settings.now holds) self.old) }
+        ensures told { HearsTries (length self.old.stages) (stands progress.old) (stands progress.new) }
+        ensures all { OnOk result (HearsAll (length self.old.stages) (length self.new.stages) (stands progress.old) (stands progress.new)) }
     {
         self.try_all(holds, true, rules, progress)?;
         self.rounds(StageKind::Stable, rules, progress)?;
@@ -185,6 +191,8 @@ impl Draft {
         ensures leads { OnOk result
             (Leads rules.now.settings.now (rounds rules.now.library.now rules.now.settings.now kind rules.now.settings.now.rounds) self.old self.new) }
         ensures fault { IfErr result (MayStop rules.now.settings.now (rounds rules.now.library.now rules.now.settings.now kind rules.now.settings.now.rounds) self.old) }
+        ensures told { HearsTries (length self.old.stages) (stands progress.old) (stands progress.new) }
+        ensures all { OnOk result (HearsAll (length self.old.stages) (length self.new.stages) (stands progress.old) (stands progress.new)) }
     {
         for _ in 0..rules.settings.rounds {
             let stages = self.candidates(kind, rules.settings)?;
@@ -225,7 +233,8 @@ impl Draft {
         requires fit { AllFit self.old.machine stages }
         requires cleared { cleared ≡ true → AllCleared self.old.machine rules.now.settings.now.width stages }
         ensures leads { OnOk result (Leads rules.now.settings.now (λ p. try_all rules.now.library.now rules.now.settings.now p stages) self.old self.new) }
-        ensures fault { IfErr result (MayStop rules.now.settings.now (λ p. try_all rules.now.library.now rules.now.settings.now p stages) self.old) }
+        ensures fault { IfErr result (MayStop rules.now.settings.now (λ p. try_all rules.now.library.now rules.now.settings.now p stages) self.old) }        ensures told { HearsTries (length self.old.stages) (stands progress.old) (stands progress.new) }
+        ensures all { OnOk result (HearsAll (length self.old.stages) (length self.new.stages) (stands progress.old) (stands progress.new)) }
     {
         // What reads the nets is found once for all of them, and grown with the machine.
         let mut fanout = Fanout::new(self.alloc);
@@ -248,32 +257,34 @@ impl Draft {
         requires cleared { cleared ≡ true → AllCleared self.old.machine rules.now.settings.now.width stages }
         requires knows { Knows self.old.machine fanout.old }
         ensures leads { OnOk result (Leads rules.now.settings.now (λ p. try_all rules.now.library.now rules.now.settings.now p stages) self.old self.new) }
-        ensures fault { IfErr result (MayStop rules.now.settings.now (λ p. try_all rules.now.library.now rules.now.settings.now p stages) self.old) }
+        ensures fault { IfErr result (MayStop rules.now.settings.now (λ p. try_all rules.now.library.now rules.now.settings.now p stages) self.old) }        ensures told { HearsTries (length self.old.stages) (stands progress.old) (stands progress.new) }
+        ensures all { OnOk result (HearsAll (length self.old.stages) (length self.new.stages) (stands progress.old) (stands progress.new)) }
     {
-        let listed = self.stages.len().saturating_add(stages.len());
+        let Some(listed) = self.stages.len().checked_add(stages.len()) else {
+            return Err(AddFault::NoMemory);
+        };
         for stage in stages.into_vec() {
-            self.tell_next(listed, progress);
-            self.try_one(stage, cleared, fanout, rules)?;
+            let number = next_number(self.stages.len())?;
+            progress.trying(number as usize, listed);
+            self.try_one(stage, number, cleared, fanout, rules)?;
         }
         Ok(())
     }
 
-    /// Tells of the stage that is tried next, one of so many that are listed so far.
-    fn tell_next(&self, listed: usize, progress: &mut dyn Progress) {
-        progress.trying(self.stages.len().saturating_add(1), listed);
-    }
-
-    /// Tries a stage that fits.
+    /// Tries a stage that fits, the one with this number.
     fn try_one(
         &mut self,
         stage: Stage,
+        number: u32,
         cleared: bool,
         fanout: &mut Fanout,
         rules: &Rules<'_>,
     ) -> Result<(), AddFault>
         requires fits { Fits self.old.machine stage }
+        requires number { number ≡ length self.old.stages + 1 }
         requires cleared { cleared ≡ true → IsCleared self.old.machine rules.now.settings.now.width stage }
         requires knows { Knows self.old.machine fanout.old }
+        ensures counted { OnOk result (length self.new.stages ≡ number) }
         ensures knows { OnOk result (Knows self.new.machine fanout.new) }
         ensures leads { OnOk result (Leads rules.now.settings.now (λ p. try_one rules.now.library.now rules.now.settings.now p stage) self.old self.new) }
         ensures fault { IfErr result (MayStop rules.now.settings.now (λ p. try_one rules.now.library.now rules.now.settings.now p stage) self.old) }
@@ -281,7 +292,6 @@ impl Draft {
         ensures clear { OnOk result (StayCleared rules.now.settings.now.width stage self.old.machine self.new.machine) }
     {
         let _netlist = self.machine.netlist();
-        let number = self.next_number()?;
         let entry = Entry {
             number,
             stage: &stage,
@@ -296,19 +306,6 @@ impl Draft {
         )?;
         self.keep(stage, outcome)?;
         Ok(())
-    }
-
-    /// The number of the next stage, counted from 1.
-    fn next_number(&self) -> Result<u32, AddFault>
-        ensures { MatchResult result (λ number. number ≡ 1 + length self.now.stages) (λ fault. fault ≡ NoMemory) }
-    {
-        let Ok(count) = u32::try_from(self.stages.len()) else {
-            return Err(AddFault::NoMemory);
-        };
-        match count.checked_add(1) {
-            Some(number) => Ok(number),
-            None => Err(AddFault::NoMemory),
-        }
     }
 
     /// Tells a stage with its outcome behind the others.

@@ -3,7 +3,8 @@ use Rattle.std.specs.List.{AllByRecursion}
 use Rattle.std.proofs.lemmas.Option.{slice_get_read}
 use Rattle.cg_machine.specs.Machine.{IsNet}
 use Rattle.cg_hint_laws.specs.Effects.{for_each, literal_answer}
-use Rattle.cg_hints.proofs.Adding.{all_kept, all_push, behind_nets, each_on, keeps_then}
+use Rattle.cg_stage_laws.proofs.Appended.{keeps_then}
+use Rattle.cg_hints.proofs.Adding.{all_kept, all_push, behind_nets, each_on}
 use Rattle.cg_hints.proofs.insert.add_literals.Goals as goal
 
 pub returns-in_err-net-clause-keeps : goal.returns-in_err-net-clause-keeps

@@ -7,7 +7,8 @@ use Rattle.cg_hint_laws.specs.Effects.{AddedNets, for_each, term_answer}
 use Rattle.cg_netlist.specs.declared.fault.AddFault.{AddFault}
 use Rattle.cg_hint_laws.specs.Answers.{MayFail}
 use Rattle.cg_hints.specs.inner.Adding.{AddsNets}
-use Rattle.cg_hints.proofs.Adding.{all_kept, all_push, behind_nets, each_fault, each_on, keeps_then}
+use Rattle.cg_stage_laws.proofs.Appended.{keeps_then}
+use Rattle.cg_hints.proofs.Adding.{all_kept, all_push, behind_nets, each_fault, each_on}
 use Rattle.cg_hints.proofs.insert.add_terms.Goals as goal
 
 pub returns-in_err-net-clause-added : goal.returns-in_err-net-clause-added

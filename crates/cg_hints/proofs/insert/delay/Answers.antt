@@ -3,7 +3,8 @@ use Rattle.cg_machine.specs.Added.{Added, delay_answer}
 use Rattle.cg_netlist.specs.declared.fault.AddFault.{AddFault}
 use Rattle.cg_hint_laws.specs.Effects.{delayed_by}
 use Rattle.cg_hints.specs.inner.Adding.{AddsAs}
-use Rattle.cg_hints.proofs.Adding.{delay_on, keeps_then, passes_same, passes_then, with_net}
+use Rattle.cg_stage_laws.proofs.Appended.{keeps_then}
+use Rattle.cg_hints.proofs.Adding.{delay_on, passes_same, passes_then, with_net}
 use Rattle.cg_hints.proofs.insert.delay.Goals as goal
 
 pub returns-in_err-last-clause-added : goal.returns-in_err-last-clause-added

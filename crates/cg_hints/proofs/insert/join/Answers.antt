@@ -6,7 +6,8 @@ use Rattle.cg_netlist.specs.declared.fault.AddFault.{AddFault}
 use Rattle.cg_machine.proofs.Extended.{net_kept}
 use Rattle.cg_hint_laws.specs.Effects.{joined_with}
 use Rattle.cg_hints.specs.inner.Adding.{AddsAs}
-use Rattle.cg_hints.proofs.Adding.{all_place, drop_at, gate_fits, join_on, keeps_then, passes_same, passes_then, with_net}
+use Rattle.cg_stage_laws.proofs.Appended.{keeps_then}
+use Rattle.cg_hints.proofs.Adding.{all_place, drop_at, gate_fits, join_on, passes_same, passes_then, with_net}
 use Rattle.cg_hints.proofs.insert.join.Goals as goal
 
 pub add_gate-requires : goal.add_gate-requires

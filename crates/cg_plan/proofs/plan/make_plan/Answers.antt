@@ -12,7 +12,7 @@ try_parts-result-requires-clause-fit g c =
     let settings = c.args.settings.now in
     let counts = option_copied c.args.counts in
     let found = c.in-Ok.found in
-    holds_fit settings counts m found c.new-draft.result c.netlist-netlist.ensures.machine (hold_found settings counts m found c.in-Ok.ensures.answer) (c.new-draft.ensures settings)
+    holds_fit settings counts m found c.new-draft.result c.netlist-netlist.ensures.machine (hold_found settings counts m found c.in-Ok.ensures.answer) (c.new-draft.ensures.draft settings)
 
 pub try_parts-result-requires-clause-cleared : goal.try_parts-result-requires-clause-cleared
 try_parts-result-requires-clause-cleared g c =
@@ -20,7 +20,7 @@ try_parts-result-requires-clause-cleared g c =
     let settings = c.args.settings.now in
     let counts = option_copied c.args.counts in
     let found = c.in-Ok.found in
-    holds_clear settings counts m found c.new-draft.result c.netlist-netlist.ensures.machine (hold_found settings counts m found c.in-Ok.ensures.answer) (c.new-draft.ensures settings)
+    holds_clear settings counts m found c.new-draft.result c.netlist-netlist.ensures.machine (hold_found settings counts m found c.in-Ok.ensures.answer) (c.new-draft.ensures.draft settings)
 
 pub returns-in-Err-clause-fault : goal.returns-in-Err-clause-fault
 returns-in-Err-clause-fault g c = hold_fails c.args.library.now c.args.settings.now (option_copied c.args.counts) c.args.machine c.in-Err.fault c.in-Err.ensures.answer
@@ -32,7 +32,7 @@ returns-in-Err-result-clause-fault g c =
     let settings = c.args.settings.now in
     let counts = option_copied c.args.counts in
     let found = c.in-Ok.found in
-    plan_fails library settings counts m found (hold_found settings counts m found c.in-Ok.ensures.answer) c.new-draft.result (c.new-draft.ensures settings) c.in-Err-result.fault c.in-Err-result.ensures.fault
+    plan_fails library settings counts m found (hold_found settings counts m found c.in-Ok.ensures.answer) c.new-draft.result (c.new-draft.ensures.draft settings) c.in-Err-result.fault c.in-Err-result.ensures.fault
 
 pub returns-in-Ok-result-clause-plan : goal.returns-in-Ok-result-clause-plan
 returns-in-Ok-result-clause-plan g c =
@@ -44,7 +44,7 @@ returns-in-Ok-result-clause-plan g c =
     let is = hold_found settings counts m found c.in-Ok.ensures.answer in
     let d = c.try_parts-result.new.self in
     subst (λ (plan : Plan). IsPlan library settings counts m (told plan)) (sym c.finished.ensures)
-    (is_plan library settings counts m d found.wide (whole_draft library settings counts m found is c.new-draft.result (c.new-draft.ensures settings) d c.in-Ok-result.ensures.leads) is.wide)
+    (is_plan library settings counts m d found.wide (whole_draft library settings counts m found is c.new-draft.result (c.new-draft.ensures.draft settings) d c.in-Ok-result.ensures.leads) is.wide)
 
 pub returns-in-Ok-result-clause-writable : goal.returns-in-Ok-result-clause-writable
 returns-in-Ok-result-clause-writable g c =
@@ -53,7 +53,7 @@ returns-in-Ok-result-clause-writable g c =
     let settings = c.args.settings.now in
     let counts = option_copied c.args.counts in
     let found = c.in-Ok.found in
-    let whole = whole_draft library settings counts m found (hold_found settings counts m found c.in-Ok.ensures.answer) c.new-draft.result (c.new-draft.ensures settings) c.try_parts-result.new.self c.in-Ok-result.ensures.leads in
+    let whole = whole_draft library settings counts m found (hold_found settings counts m found c.in-Ok.ensures.answer) c.new-draft.result (c.new-draft.ensures.draft settings) c.try_parts-result.new.self c.in-Ok-result.ensures.leads in
     subst (λ (plan : Plan). AreWritable plan.certificates) (sym c.finished.ensures) whole.writable
 
 pub returns-in-Ok-result-clause-safe : goal.returns-in-Ok-result-clause-safe
@@ -65,4 +65,4 @@ returns-in-Ok-result-clause-safe g c =
     let found = c.in-Ok.found in
     subst (λ (plan : Plan). IsSafePlan library settings m plan.machine) (sym c.finished.ensures)
     (is_safe library settings counts m c.try_parts-result.new.self c.netlist-netlist.ensures.machine
-    (whole_draft library settings counts m found (hold_found settings counts m found c.in-Ok.ensures.answer) c.new-draft.result (c.new-draft.ensures settings) c.try_parts-result.new.self c.in-Ok-result.ensures.leads))
+    (whole_draft library settings counts m found (hold_found settings counts m found c.in-Ok.ensures.answer) c.new-draft.result (c.new-draft.ensures.draft settings) c.try_parts-result.new.self c.in-Ok-result.ensures.leads))

@@ -21,6 +21,7 @@
 //! - `put`: the data inputs and the registers' bits at their nets.
 //! - `register_step`: which registers rise, and their next bits.
 //! - `settle`: the logic cells, of which those are looked at that have a changed input, or all.
+//! - `rest`: the bits that the controls of registers force.
 //! - `latch_step`: the latches of gating cells.
 //! - `moment`: from one moment to the next.
 //! - `simulator`: the simulator.
@@ -37,6 +38,7 @@ mod present;
 mod put;
 mod readers;
 mod reads;
+mod rest;
 mod register_step;
 mod runs;
 mod schedule;

@@ -5,20 +5,23 @@ ghost use Rattle.cg_edge.specs.inner.Kept.{IsSchedule};
 
 use crate::flat::FlatCells;
 use crate::readers::Readers;
+use crate::rest::controlled;
 use crate::runs::{Run, runs};
 use crate::wire::{Wire, wires};
-use cg_net::id::{CellId, GateClockId};
+use cg_net::id::{CellId, GateClockId, RegId};
 use cg_netlist::netlist::Netlist;
 use std::alloc::{AllocError, Global};
 
 /// What stays the same from tick to tick: a netlist, its gating cells, each behind the one that drives its clock pin, its
-/// registers in runs and as wires where they are some, and its logic cells in walk order, with what reads each net.
+/// registers in runs and as wires where they are some, those of them that have controls, and its logic cells in walk order, with what
+/// reads each net.
 #[derive(Drop)]
 pub(crate) struct Schedule<'a> {
     pub(crate) netlist: &'a Netlist,
     pub(crate) chain: Vec<GateClockId>,
     pub(crate) runs: Vec<Run>,
     pub(crate) wires: Vec<Option<Wire>>,
+    pub(crate) controlled: Vec<RegId>,
     pub(crate) order: &'a [CellId],
     pub(crate) cells: FlatCells,
     pub(crate) readers: Readers,
@@ -35,6 +38,7 @@ impl<'a> Schedule<'a> {
         let chain = netlist.gater_order(alloc)?;
         let runs = runs(alloc, netlist)?;
         let wires = wires(alloc, netlist)?;
+        let controlled = controlled(alloc, netlist)?;
         let cells = FlatCells::new(alloc, netlist, order)?;
         let readers = Readers::new(alloc, netlist, order)?;
         Ok(Schedule {
@@ -42,6 +46,7 @@ impl<'a> Schedule<'a> {
             chain,
             runs,
             wires,
+            controlled,
             order,
             cells,
             readers,

@@ -8,6 +8,7 @@ use Rattle.std.specs.Option.{option_map_or}
 use Rattle.cg_cell.specs.Gates.{any_of}
 use Rattle.cg_cell.specs.Term.{Term, Bit, Input, Inverse, Both, Either, Differ, lone_input, term_value}
 use Rattle.cg_claim.specs.Reach.{register_term}
+use Rattle.cg_stage_list_laws.proofs.TakenNets.{takes_value}
 use Rattle.cg_stage_list_laws.specs.UnseenList.{taken_at, taken_net}
 use Rattle.cg_machine.proofs.Extended.{any_old, front_bit, old_inputs, old_long, output_below, taken_below, unseen_kept}
 use Rattle.cg_machine.proofs.Lists.{below_or}
@@ -43,50 +44,15 @@ use Rattle.cg_machine.proofs.There.{same_bits}
 pub extends_by : (m n : MachineData) → Grows m n → Extends m (with_enables n m.enables)
 extends_by m n g = record { own = g.own; clock = g.clock; inputs = g.inputs; outputs = g.outputs; names = g.names; count = g.count; registers = g.registers; enables = λ r below. refl; fronts = g.fronts }
 
-front_get : (xs ys : List Bool) (k : ℕ) → k < length xs → slice_get (xs ++ ys) k ≡ slice_get xs k
-front_get [] ys k below = absurd (omega arith)
-front_get (x ∷ xs) ys zero below = refl
-front_get (x ∷ xs) ys (suc k) below = front_get xs ys k (omega arith)
-
--- the next bit of a register whose function is one of its inputs
-lone_is : (t : Term) (k : ℕ) → lone_input t ≡ Some k → t ≡ Input k
-lone_is (Bit b) k is = absurd (none-some k is)
-lone_is (Input j) k is = ap Input (same_Some j k is)
-lone_is (Inverse t) k is = absurd (none-some k is)
-lone_is (Both s t) k is = absurd (none-some k is)
-lone_is (Either s t) k is = absurd (none-some k is)
-lone_is (Differ s t) k is = absurd (none-some k is)
-
-takes_input : (kind : RegisterKind) (bits : List Bool) (own : Bool) (k : ℕ) → k < length bits → register_term kind ≡ Input k → next_value kind bits own ≡ bit bits k
-takes_input Plain bits own k below is = ap (bit bits) (same_input 0 k is)
-  where
-    same_input : (a b : ℕ) → Input a ≡ Input b → a ≡ b
-    same_input a b e = cc
-takes_input (Flop cell) bits own k below is = go cell.function is
-  where
-    go : (o : Option Term) → option_map_or (λ (t : Term). t) o (Bit false) ≡ Input k → option_map_or (term_value (bits ++ own ∷ [])) o false ≡ bit bits k
-    go None h = absurd (cc)
-    go (Some t) h = ap (term_value (bits ++ own ∷ [])) h ∙ same_bits (bits ++ own ∷ []) bits k k (front_get bits (own ∷ []) k below)
-
 module _ (n : MachineData) (good : IsMachine n) where
   pub takes_net : (s x : List Bool) → IsState n s → IsInputs n x → (q y : ℕ) → enable_of n q ≡ None → taken_at n q ≡ Some y → next n (values n s x) s q ≡ bit (values n s x) y
   takes_net s x long ins q y none taken = cells (slice_get n.circuit.registers q) refl taken
     where
       cells : (c : Option (RegisterCell ℕ ℕ)) → slice_get n.circuit.registers q ≡ c → option_and_then taken_net c ≡ Some y → next_of c (enable_of n q) (values n s x) (bit s q) ≡ bit (values n s x) y
       cells None at h = absurd (none-some y h)
-      cells (Some cell) at h = inner (lone_input (register_term cell.kind)) refl h
-        where
-          inner : (o : Option ℕ) → lone_input (register_term cell.kind) ≡ o → option_and_then (slice_get cell.inputs) o ≡ Some y → next_of (Some cell) (enable_of n q) (values n s x) (bit s q) ≡ bit (values n s x) y
-          inner None lone g = absurd (none-some y g)
-          inner (Some k) lone g =
-              let nets : List Bool = values n s x in
-              let bits : List Bool = values_at nets cell.inputs in
-              let all : All (λ z. z < length nets) cell.inputs = All-from_members (λ z. z < length nets) cell.inputs (λ z among. let b = taken_below n good q cell z at among in omega (arith, b, wide n good s x long ins)) in
-              let at_k : slice_get bits k ≡ slice_get nets y = value_at nets cell.inputs k y all g in
-              let below : k < length bits = omega (arith, length-values_at nets cell.inputs all, slice_get_within cell.inputs k y g) in
-              ap (λ o. next_of (Some cell) o nets (bit s q)) none
-              ∙ (takes_input cell.kind bits (bit s q) k below (lone_is (register_term cell.kind) k lone)
-              ∙ same_bits bits nets k y at_k)
+      cells (Some cell) at h =
+          ap (λ o. next_of (Some cell) o (values n s x) (bit s q)) none
+          ∙ takes_value n good s x long ins q y cell at taken
 
 -- what is kept up to the last machine
 pub record Rises (all : List Entry) (k n : MachineData) : Type 0 where

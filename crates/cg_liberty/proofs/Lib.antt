@@ -3,10 +3,15 @@ pub mod SoundPorts
 pub mod PortFacts
 pub mod LogicCells
 pub mod Counts
+pub mod Ranges
+pub mod Uncontrolled
+pub mod ControlPins
+pub mod Tables
 pub mod Readings
 pub mod GaterCells
 pub mod Restated
 pub mod FlopCells
+pub mod FlopPins
 pub mod Adding
 pub mod NamedCells
 pub mod AddedCells

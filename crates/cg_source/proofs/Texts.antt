@@ -1,5 +1,5 @@
 -- What is found of the text of a library, of a formula and of a log is what the text says.
-use Rattle.std.proofs.Common.{◌≡◌, ℕ, List, Ok}
+use Rattle.std.proofs.Common.{◌≡◌, ℕ, false, List, Ok}
 use Rattle.std.specs.List.{AllByRecursion}
 use Rattle.cg_cell.specs.Cell.{CellData, IsCell}
 use Rattle.cg_formula.specs.DimacsReading.{dimacs}
@@ -19,8 +19,8 @@ use Rattle.cg_source.specs.Log.{log_found, log_trouble}
 use Rattle.cg_source.proofs.ProperCells.{library_proper}
 use Rattle.cg_source.proofs.Taken.{refused_ok}
 
-pub library_says : (text : List ℕ) (library : List CellData) → library_found text ≡ Ok library → LibText text library
-library_says text library is = text_of_library text library (refused_ok library_trouble (library_of text) library is)
+pub library_says : (text : List ℕ) (library : List CellData) → library_found text ≡ Ok library → LibText false text library
+library_says text library is = text_of_library false text library (refused_ok library_trouble (library_of false text) library is)
 
 -- the cells of a library that is found are cells
 pub library_cells : (text : List ℕ) (library : List CellData) → library_found text ≡ Ok library → AllByRecursion IsCell library

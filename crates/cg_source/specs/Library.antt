@@ -1,5 +1,5 @@
 -- The library that a text says, or why the text is refused, as its complaint says it.
-use Rattle.std.specs.Prelude.{ℕ, List, [], ◌∷◌, ◌++◌, codes, decimal, Result}
+use Rattle.std.specs.Prelude.{ℕ, false, List, [], ◌∷◌, ◌++◌, codes, decimal, Result}
 use Rattle.cg_cell.specs.Cell.{CellData}
 use Rattle.cg_liberty.specs.Library.{library_of}
 use Rattle.cg_liberty.specs.declared.fault.LibertyFault.{LibertyFault}
@@ -19,4 +19,4 @@ library_trouble (liberty_faults.Limit limit) = troubles.Limit limit
 library_trouble liberty_faults.NoMemory = troubles.NoMemory
 
 abbrev pub library_found : List ℕ → Result (List CellData) Trouble
-library_found text = refused_as library_trouble (library_of text)
+library_found text = refused_as library_trouble (library_of false text)

@@ -21,7 +21,7 @@ pub fn take_library(alloc: Global, text: &Seq<u8>) -> Result<Library, Trouble>
     ensures answers { Answers (library_found text.now) result }
     ensures cells { IfOk result (λ library. AllByRecursion IsCell library) }
 {
-    match read_library(alloc, text.as_slice()) {
+    match read_library(alloc, text.as_slice(), false) {
         Ok(library) => Ok(library),
         Err(fault) => Err(library_trouble(alloc, fault)?),
     }

@@ -9,16 +9,18 @@ use Rattle.cg_edge.specs.declared.present.Bits.{Bits}
 use Rattle.cg_edge.specs.declared.schedule.Schedule.{Schedule}
 use Rattle.cg_edge.specs.inner.Flat.{AreLaid}
 use Rattle.cg_edge.specs.inner.Keeping.{AreMarked, AreReaders, IsChain, walk_of}
+use Rattle.cg_edge.specs.inner.Rest.{AreControlled}
 use Rattle.cg_edge.specs.inner.Runs.{AreRuns}
 use Rattle.cg_edge.specs.inner.Wires.{AreWires}
 
--- the gating cells stand in a chain, the registers in runs and as wires, and the logic cells are laid out in walk order, with their
--- readers
+-- the gating cells stand in a chain, the registers in runs and as wires, those with controls in a list, and the logic cells are laid
+-- out in walk order, with their readers
 pub record IsSchedule (s : Schedule) : Type 0 where
   pub netlist : IsNetlist s.netlist.now
   pub chained : IsChain s.netlist.now s.chain.items
   pub runs : AreRuns s.netlist.now.registers 0 (length s.netlist.now.registers) s.runs.items
   pub wires : AreWires s.netlist.now.registers (length s.netlist.now.registers) s.wires.items
+  pub controlled : AreControlled s.netlist.now (length s.netlist.now.registers) s.controlled.items
   pub ordered : s.order.now ≡ walk_order s.netlist.now.cells
   pub laid : AreLaid s.netlist.now s.order.now (length s.order.now) s.cells
   pub reading : AreReaders (length s.netlist.now.names) (length s.order.now) (walk_of s.netlist.now) s.readers
@@ -28,6 +30,8 @@ pub record AreBits (c : Circuit) (bits : Bits) : Type 0 where
   pub nets : length bits.nets.items ≡ length c.names
   pub before : length bits.before.items ≡ length c.names
   pub state : length bits.state.items ≡ length c.registers
+  pub held : length bits.held.items ≡ length c.registers
+  pub forced : length bits.forced.items ≡ length c.registers
   pub latches : length bits.latches.items ≡ length c.gaters
   pub rose : length bits.rose.items ≡ length c.registers
   pub room : widest_of c.cells ≤ length bits.scratch.items

@@ -21,7 +21,8 @@ use Rattle.cg_gate.specs.Proper.{IsProper}
 use Rattle.cg_gate.specs.Request.{MayGate, RequestData, begun_of, gating_of, hints_limit, hints_of, limit_of, plan_limit, stops_at}
 use Rattle.cg_gate.specs.declared.planning.TriedHints.{TriedHints}
 use Rattle.cg_gate_laws.proofs.BegunSafe.{left_is}
-use Rattle.cg_hint_laws.specs.Answers.{AreTried, MayFail, Reported}
+use Rattle.cg_hint_laws.specs.Answers.{MayFail, Reported}
+use Rattle.cg_hints.specs.Applying.{AreApplied}
 use Rattle.cg_gate.proofs.MayInsert.{may_gate}
 
 -- a netlist that was inserted passes no limit
@@ -40,7 +41,7 @@ hint_stops tried NoMemory is = tt
 hint_stops tried (LimitFault limit) is = ap limit_of is
 
 -- hints that were tried leave the machine with which the plan begins
-pub told_left : (request : RequestData) (read : Circuit) (hints : Reported) → AreTried request.library request.settings.width (lifted read request.prefix) (map (renamed read) (hints_of request)) hints → hints.machine ≡ begun_of request read
+pub told_left : (request : RequestData) (read : Circuit) (hints : Reported) → AreApplied request.library request.settings.width request.settings.proof (lifted read request.prefix) (map (renamed read) (hints_of request)) hints → hints.machine ≡ begun_of request read
 told_left request read hints tried = tried.machine ∙ left_is (gating_of request read) read tried.done tried.tried
 
 module _ (request : RequestData) (read : Circuit) (proper : IsProper request) (may : MayGate request read) (hints : TriedHints) (told : ReportedPlan)

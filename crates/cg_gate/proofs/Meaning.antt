@@ -8,6 +8,7 @@ use Rattle.cg_extract.specs.Lifted.{kept_nets, lifted, origins}
 use Rattle.cg_gate_laws.proofs.BegunSafe.{all_fit, begun_few, begun_safe}
 use Rattle.cg_gate_laws.proofs.SameOutputs.{whole}
 use Rattle.cg_gate_laws.specs.Begun.{renamed}
+use Rattle.cg_hint_laws.proofs.Deserved.{turns_deserved}
 use Rattle.cg_hint_laws.proofs.Worthy.{turns_worthy}
 use Rattle.cg_hint_laws.specs.Answers.{Reported}
 use Rattle.cg_hint_laws.specs.Laws.{IsSafe}
@@ -218,6 +219,8 @@ module _ (request : RequestData) (says : Option Saying) (read : Circuit) (texts 
     asked = hints_named read may.start.netlist request.library request.settings.width (lifted read request.prefix) (hints_of request) gives.gated.tried.done
         (lifted_own read request.prefix may.start).own (lifted_is_machine read request.prefix may.start) (all_fit read request.prefix may.start (hints_of request) may.hints) may.hints gives.gated.tried.tried;
     deserved_hints = turns_worthy request.library request.settings.width (lifted read request.prefix) (map (renamed read) (hints_of request)) gives.gated.tried.done
+        (lifted_is_machine read request.prefix may.start) (all_fit read request.prefix may.start (hints_of request) may.hints) gives.gated.tried.tried;
+    outcomes_of_hints = turns_deserved request.library request.settings.width (lifted read request.prefix) (map (renamed read) (hints_of request)) gives.gated.tried.done
         (lifted_is_machine read request.prefix may.start) (all_fit read request.prefix may.start (hints_of request) may.hints) gives.gated.tried.tried;
     turns = plan.turns;
     planned = refl;

@@ -4,8 +4,9 @@ use Rattle.std.specs.Option.{option_map}
 use Rattle.cg_blif_text.specs.Canonical.{blif}
 use Rattle.cg_gate_laws.specs.Begun.{renamed}
 use Rattle.cg_gate_laws.specs.Gated.{Gating, begun}
-use Rattle.cg_hint_laws.specs.Answers.{AreTried, Reported}
+use Rattle.cg_hint_laws.specs.Answers.{Reported}
 use Rattle.cg_hint_laws.specs.declared.outcome.HintOutcome.{HintOutcome}
+use Rattle.cg_hints.specs.Applying.{AreApplied}
 use Rattle.cg_insert.specs.Insert.{inserted, insertion_limit}
 use Rattle.cg_extract.specs.Lifted.{lifted}
 use Rattle.cg_netlist.specs.Circuit.{Circuit}
@@ -28,7 +29,7 @@ use Rattle.cg_gate.specs.declared.gate.Texts.{Texts}
 -- hints of a netlist were tried one after another on its machine, and are told so
 abbrev pub AreHintsTried : Gating → Circuit → TriedHints → Type 0
 AreHintsTried by c hints =
-    AreTried by.library by.settings.width (lifted c by.prefix) (map (renamed c) by.hints)
+    AreApplied by.library by.settings.width by.settings.proof (lifted c by.prefix) (map (renamed c) by.hints)
     (record { machine = begun by c; outcomes = hints.outcomes; certificates = hints.certificates })
 
 -- hints as they are told, a plan as it is told, which begins with the machine that they leave and whose certificates keep to the bounds

@@ -7,10 +7,12 @@ use Rattle.cg_blif_text.specs.Canonical.{blif}
 use Rattle.cg_extract.specs.Lifted.{lifted, origins}
 use Rattle.cg_gate_laws.specs.Begun.{renamed}
 use Rattle.cg_gate_laws.specs.Kept.{KeepsParts}
-use Rattle.cg_hint_laws.specs.Answers.{AreTried, Reported}
+use Rattle.cg_hint_laws.specs.Answers.{Reported}
 use Rattle.cg_hint_laws.specs.Laws.{IsWorthInserting as IsHintWorthInserting}
+use Rattle.cg_hint_laws.specs.Outcomes.{Deserves as HintDeserves}
 use Rattle.cg_hint_laws.specs.Trying.{Turn as HintTurn}
 use Rattle.cg_hint_laws.specs.declared.outcome.HintOutcome.TheVariants as hint_outcomes
+use Rattle.cg_hints.specs.Applying.{AreApplied}
 use Rattle.cg_insert.specs.Insert.{inserted}
 use Rattle.cg_insert.specs.Insertion.{RisesAre}
 use Rattle.cg_machine.specs.Machine.{MachineData}
@@ -127,14 +129,18 @@ pub record Headline (request : RequestData) (says : Option Saying) (read : Circu
   pub verilog_means : IfSome texts.verilog (VerilogMeans request plan.machine read delays written)
   -- the hints were tried one after another on the machine of the original, to whose enables the original's gating cells are lifted,
   -- each as what it says by the names of its nets, and each is inserted exactly where it is worth it on the machine of its turn; they
-  -- are told with their outcomes, bits that are told of a refuted claim violate it, and there is a certificate for each register of
-  -- each inserted hint, in order, with the defined formula and an accepted log, and no other
+  -- are told with their outcomes, bits that are told of a refuted claim violate it, and where a proof file is asked for there is a
+  -- certificate for each register of each inserted hint, in order, with the defined formula and an accepted log, and no other
   pub hints : Reported
-  pub tried : AreTried request.library request.settings.width (lifted read request.prefix) (map (renamed read) (hints_of request)) hints
+  pub tried : AreApplied request.library request.settings.width request.settings.proof (lifted read request.prefix)
+      (map (renamed read) (hints_of request)) hints
   pub asked : AreAsked read (hints_of request) tried.done.turns
   pub deserved_hints : (k : ℕ) (turn : HintTurn) → slice_get tried.done.turns k ≡ Some turn →
       (turn.outcome ≡ hint_outcomes.Inserted)
       ↔ IsHintWorthInserting request.library request.settings.width turn.machine turn.hint
+  -- and each outcome of a hint says what is so of it there, over all states and inputs where it speaks of a claim or of the condition
+  pub outcomes_of_hints : (k : ℕ) (turn : HintTurn) → slice_get tried.done.turns k ≡ Some turn →
+      HintDeserves request.library request.settings.width turn.machine turn.hint turn.outcome
   -- it is what the plan's machine is written as; the plan came to its end, its stages lead there from the machine that the hints
   -- leave, and each is inserted exactly where it is worth it on the machine of its turn
   pub is : written ≡ inserted request.library request.test plan.machine

@@ -20,7 +20,8 @@ ghost use Rattle.cg_plan.specs.Planning.{AreWritable, told};
 ghost use Rattle.cg_stimulus.specs.Inputs.{IsFor, IsStimulus, Rows};
 ghost use Rattle.std.specs.List.{All, AllByRecursion};
 ghost use Rattle.cg_gate_laws.specs.Begun.{renamed, renamed_literal};
-ghost use Rattle.cg_hint_laws.specs.Answers.{AreTried, MayFail};
+ghost use Rattle.cg_hint_laws.specs.Answers.{MayFail};
+ghost use Rattle.cg_hints.specs.Applying.{AreApplied};
 ghost use Rattle.cg_hint_laws.specs.Laws.{AllFit};
 ghost use Rattle.cg_hint_laws.specs.OfNetlist.{IsOf, IsPlain};
 ghost use Rattle.cg_hint_laws.specs.Trying.{hinted};
@@ -34,6 +35,7 @@ use cg_hint_laws::certificate::HintCertificate;
 use cg_hint_laws::hint::Hint;
 use cg_hint_laws::outcome::HintOutcome;
 use cg_hints::apply::{Applied, apply_all};
+use cg_hints::rules::Rules;
 use cg_insert::insert::insert;
 use cg_list::Seq;
 use cg_machine::machine::Machine;
@@ -79,7 +81,7 @@ pub struct TriedHints {
     /// What came of each, in order.
     pub outcomes: Seq<HintOutcome>,
 
-    /// A proof of the claim of each register of each inserted hint, in the order of hints and registers.
+    /// Where a proof file is asked for, a proof of the claim of each register of each inserted hint, in the order of hints and registers.
     pub certificates: Seq<HintCertificate>,
 }
 
@@ -324,14 +326,18 @@ fn try_hints(
     request: &Request<'_>,
 ) -> Result<Begun, AddFault>
     requires { AllFit made.machine hints.now }
-    ensures tried { IfOk result (λ begun. AreTried request.now.library request.now.settings.width made.machine hints.now
+    ensures tried { IfOk result (λ begun. AreApplied request.now.library request.now.settings.width request.now.settings.proof made.machine hints.now
         (record { machine = begun.machine; outcomes = begun.hints.outcomes; certificates = begun.hints.certificates })) }
     ensures kept { IfOk result (λ begun. begun.kept ≡ made.kept) }
     ensures fault { IfErr result (MayFail (hinted request.now.library request.now.settings.width made.machine hints.now)) }
 {
     let Extracted { machine, kept } = made;
-    let width = request.settings.width;
-    match apply_all(alloc, machine, hints, request.library, width) {
+    let rules = Rules {
+        library: request.library,
+        width: request.settings.width,
+        proof: request.settings.proof,
+    };
+    match apply_all(alloc, machine, hints, &rules) {
         Ok(applied) => Ok(leave(applied, kept)),
         Err(fault) => {
             drop(kept);

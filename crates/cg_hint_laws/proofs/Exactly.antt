@@ -106,7 +106,7 @@ module _ (library : List CellData) (width : ℕ) (m : MachineData) (h : Hint) (g
       let f = and_then_ok (effect m h) (λ n. Ok Inserted) Inserted p.1 in
       record { taken = a.0; cells = b.0; narrow = c.0; small = d.0; idles = e.0; holds = e.1; room = (f.0, f.1) }
 
-  can : claim_holds m h Idle ≡ false → CanIdle m h.terms
+  pub can : claim_holds m h Idle ≡ false → CanIdle m h.terms
   unfolding is_never
   can some =
       let q : Question = idle_question h.terms in

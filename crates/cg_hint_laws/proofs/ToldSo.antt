@@ -1,13 +1,12 @@
 -- What comes of a hint, as it is told, is so; and its registers get the end of its chain.
 use Rattle.std.proofs.Common.{◌≡◌, ℕ, zero, suc, ◌<◌, Bool, true, false, not, if◌then◌else◌, List, [], ◌∷◌, slice_get, Option, None, Some, is_some}
-use Rattle.std.proofs.Common.{refl, sym, ◌∙◌, ap, subst, arith, Ok, Err, unwrap_or, ◌⊎◌, inl, inr, nat_lt, length}
+use Rattle.std.proofs.Common.{refl, sym, ◌∙◌, ap, subst, arith, Ok, Err, unwrap_or, ◌⊎◌, inl, inr, nat_lt}
 use Rattle.std.specs.List.{find}
 use Rattle.std.specs.Option.{option_map, option_or}
 use Rattle.std.proofs.lemmas.Bool.{both_ways, not-false, not-true}
-use Rattle.std.proofs.lemmas.Option.{none-some, same_Some}
+use Rattle.std.proofs.lemmas.Option.{same_Some}
 use Rattle.cg_cell.specs.Cell.{CellData}
 use Rattle.cg_cell.specs.declared.fit.FitKind.{FitKind}
-use Rattle.cg_claim.specs.declared.leaf.LeafBit.{LeafBit}
 use Rattle.cg_limit.specs.declared.Limit.TheVariants.{ClaimNodes}
 use Rattle.cg_limit.specs.declared.TheConstants.{MOST_CLAIM_NODES}
 use Rattle.cg_machine.specs.Added.{Added}
@@ -25,12 +24,12 @@ use Rattle.cg_hint_laws.specs.declared.outcome.HintClaim.{HintClaim}
 use Rattle.cg_hint_laws.specs.declared.outcome.HintClaim.TheVariants.{Hold, Idle}
 use Rattle.cg_hint_laws.specs.declared.outcome.HintOutcome.{HintOutcome}
 use Rattle.cg_hint_laws.specs.declared.outcome.HintOutcome.TheVariants.{Inserted, NeverIdle, NoCell, Refuted, Taken, Wide}
-use Rattle.cg_hint_laws.specs.Effects.{and_then, condition_answer, delayed_by, effect, hint_answer}
-use Rattle.cg_hint_laws.specs.Hints.{AreFree, CanIdle, Fits, HintHold, condition_at}
+use Rattle.cg_hint_laws.specs.Effects.{and_then, condition_answer, delayed_by, effect}
+use Rattle.cg_hint_laws.specs.Hints.{CanIdle, Fits, HintHold, condition_at}
 use Rattle.cg_hint_laws.specs.Laws.{IsFirstRefuted, NeverIdleIsSo, RefutedIsSo, RegistersGetChain}
 use Rattle.cg_hint_laws.specs.Needs.{needs}
-use Rattle.cg_hint_laws.specs.Question.{Question, hold_question, idle_question}
-use Rattle.cg_hint_laws.specs.Trying.{Answer, all_claims, claim_holds, claim_nodes, claim_width, first_against, first_large, first_missing, first_refuted, first_taken}
+use Rattle.cg_hint_laws.specs.Question.{hold_question, idle_question}
+use Rattle.cg_hint_laws.specs.Trying.{Answer, all_claims, claim_holds, claim_nodes, claim_width, first_large, first_missing, first_refuted, first_taken}
 use Rattle.cg_hint_laws.specs.Trying.{first_wide, hold_claims, never_idle, tried}
 use Rattle.cg_hint_laws.specs.Violates.{IsNeverOne, IsSometimesOne, is_never}
 use Rattle.cg_hint_laws.proofs.Additions.{and_then_ok}
@@ -128,7 +127,7 @@ pub record IsFirst {T : Type 0} (p : T → Bool) (xs : List T) (x : T) : Type 0 
   pub passes : p x ≡ true
   pub none_before : (k : ℕ) (y : T) → k < place → slice_get xs k ≡ Some y → p y ≡ false
 
-first_found : {T : Type 0} (p : T → Bool) (xs : List T) (x : T) → find p xs ≡ Some x → IsFirst p xs x
+pub first_found : {T : Type 0} (p : T → Bool) (xs : List T) (x : T) → find p xs ≡ Some x → IsFirst p xs x
 first_found p [] x is = absurd (cc)
 first_found {T = T} p (y ∷ ys) x is = go (p y) refl is (first_found p ys x)
   where
@@ -146,7 +145,7 @@ first_found {T = T} p (y ∷ ys) x is = go (p y) refl is (first_found p ys x)
 
 module _ (m : MachineData) (h : Hint) (good : IsMachine m) (fits : Fits m h) where
   -- a condition that is never 0 is 1
-  is_one : is_never m (idle_question h.terms) ≡ true → (s x : List Bool) → IsState m s → IsInputs m x → condition_at (values m s x) h.terms ≡ true
+  pub is_one : is_never m (idle_question h.terms) ≡ true → (s x : List Bool) → IsState m s → IsInputs m x → condition_at (values m s x) h.terms ≡ true
   is_one never s x long ins = go (condition_at (values m s x) h.terms) refl
     where
       go : (b : Bool) → condition_at (values m s x) h.terms ≡ b → b ≡ true
@@ -158,17 +157,17 @@ module _ (m : MachineData) (h : Hint) (good : IsMachine m) (fits : Fits m h) whe
           absurd (both_ways _ (zero one.bits one.long) one.one)
 
   -- a register keeps its bit exactly where its claim is never violated
-  keeps_so : (r : ℕ) → is_in h.regs r ≡ true → claim_holds m h (Hold r) ≡ true → HintHold m h.terms h.after r
+  pub keeps_so : (r : ℕ) → is_in h.regs r ≡ true → claim_holds m h (Hold r) ≡ true → HintHold m h.terms h.after r
   keeps_so r among never =
       let below = registers_below m h good fits r among in
       (hold_is_said m h.terms h.after r good fits.literals below).0 ((never_is_tried m (hold_question h.terms h.after r) good (hold_asked m h.terms h.after r fits.literals below)).0 never)
 
-  so_keeps : (r : ℕ) → is_in h.regs r ≡ true → HintHold m h.terms h.after r → claim_holds m h (Hold r) ≡ true
+  pub so_keeps : (r : ℕ) → is_in h.regs r ≡ true → HintHold m h.terms h.after r → claim_holds m h (Hold r) ≡ true
   so_keeps r among holds =
       let below = registers_below m h good fits r among in
       (never_is_tried m (hold_question h.terms h.after r) good (hold_asked m h.terms h.after r fits.literals below)).1 ((hold_is_said m h.terms h.after r good fits.literals below).1 holds)
 
-  refuted_first : (claim : HintClaim) → find (λ (c : HintClaim). not (claim_holds m h c)) (hold_claims h) ≡ Some claim → IsFirstRefuted m h claim
+  pub refuted_first : (claim : HintClaim) → find (λ (c : HintClaim). not (claim_holds m h c)) (hold_claims h) ≡ Some claim → IsFirstRefuted m h claim
   refuted_first claim found =
       let f = first_found (λ (c : HintClaim). not (claim_holds m h c)) (hold_claims h) claim found in
       let r = mapped_at Hold h.regs f.place claim f.at in

@@ -1,5 +1,5 @@
 -- Where no limit is passed, a hint is inserted exactly where it is worth it.
-use Rattle.std.proofs.Common.{◌≡◌, ℕ, zero, suc, List, [], ◌∷◌, slice_get, Option, None, Some, Ok, Err, unwrap_or, refl, ◌∙◌, ap, sym, subst}
+use Rattle.std.proofs.Common.{◌≡◌, ℕ, zero, suc, List, [], ◌∷◌, slice_get, Option, None, Some, Ok, Err, unwrap_or, ◌∙◌, ap, sym, subst}
 use Rattle.std.specs.List.{find}
 use Rattle.std.specs.Option.{option_map, option_or}
 use Rattle.std.specs.Prelude.{nat_lt, ◌↔◌}
@@ -15,7 +15,7 @@ use Rattle.cg_hint_laws.specs.declared.outcome.HintOutcome.{HintOutcome}
 use Rattle.cg_hint_laws.specs.declared.outcome.HintOutcome.TheVariants.{Inserted}
 use Rattle.cg_hint_laws.specs.Effects.{and_then, effect}
 use Rattle.cg_hint_laws.specs.Hints.{Fits}
-use Rattle.cg_hint_laws.specs.Laws.{AllFit, IsInsertable, IsWorthInserting, WorthyExactly}
+use Rattle.cg_hint_laws.specs.Laws.{IsInsertable, IsWorthInserting, WorthyExactly}
 use Rattle.cg_hint_laws.specs.Trying.{Answer, Hinted, Turn, after_outcome, all_claims, claim_nodes, first_against, first_large, first_missing, first_refuted, first_taken}
 use Rattle.cg_hint_laws.specs.Trying.{first_wide, hinted, never_idle, tried, with_turn}
 use Rattle.cg_hint_laws.proofs.Additions.{and_then_ok}

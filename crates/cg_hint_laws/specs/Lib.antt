@@ -10,3 +10,4 @@ pub mod Needs
 pub mod Trying
 pub mod Answers
 pub mod Laws
+pub mod Outcomes

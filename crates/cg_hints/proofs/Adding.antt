@@ -1,5 +1,5 @@
 -- What is added to a machine, one after another.
-use Rattle.std.proofs.Common.{◌≡◌, ℕ, zero, suc, ◌+◌, ◌-◌, ◌<◌, ◌≤◌, Bool, true, false, cond, List, [], ◌∷◌, ◌++◌, drop, length, slice_get, Some, Result, Ok, Err, IfOk, OnErr}
+use Rattle.std.proofs.Common.{◌≡◌, ℕ, zero, suc, ◌+◌, ◌-◌, ◌<◌, ◌≤◌, Bool, true, false, cond, List, [], ◌∷◌, ◌++◌, drop, length, slice_get, Some, Result, Ok, Err}
 use Rattle.std.proofs.Common.{refl, sym, ◌∙◌, ap, subst, arith}
 use Rattle.std.specs.List.{All, AllByRecursion, find}
 use Rattle.cg_machine.specs.Claims.{Literal}
@@ -8,10 +8,9 @@ use Rattle.cg_hint_laws.specs.Hints.{condition_nets}
 use Rattle.cg_hint_laws.proofs.Conditions.{IsTerm, terms_are}
 use Rattle.cg_cell.specs.declared.fit.FitKind.{FitKind}
 use Rattle.cg_machine.specs.Added.{Added, delay_answer, gate_answer}
-use Rattle.cg_machine.specs.Extends.{Extends, GateFits, HasDelay, HasGate}
+use Rattle.cg_machine.specs.Extends.{Extends, GateFits}
 use Rattle.cg_machine.specs.Gates.{HasInputs}
-use Rattle.cg_machine.specs.Machine.{IsMachine, IsNet, MachineData}
-use Rattle.cg_machine.proofs.Extended.{extends_self, extends_then}
+use Rattle.cg_machine.specs.Machine.{IsNet, MachineData}
 use Rattle.cg_net.proofs.TableLemmas.{drop_cons}
 use Rattle.cg_netlist.specs.declared.fault.AddFault.{AddFault}
 use Rattle.cg_netlist.specs.declared.fault.AddFault.TheVariants.{Limit, NoMemory}
@@ -19,24 +18,10 @@ use Rattle.cg_machine.proofs.Extended.{net_kept}
 use Rattle.cg_stage_laws.proofs.Joins.{two_nets}
 use Rattle.cg_hint_laws.specs.Effects.{AddedNets, and_then, before_nets, delayed_by, for_each, joined_with}
 use Rattle.cg_hint_laws.specs.Answers.{MayFail}
-use Rattle.cg_hints.specs.inner.Adding.{AddsAs, Keeps}
+use Rattle.cg_hints.specs.inner.Adding.{AddsAs}
 
 abbrev pub with_net : MachineData → ℕ → Added
 with_net n net = record { machine = n; net = net }
-
-pub keeps_same : (m n : MachineData) → IsMachine m → n ≡ m → Keeps m n
-keeps_same m n good is = subst (Keeps m) (sym is) (record { good = good; extends = extends_self m })
-
-pub keeps_then : (m n o : MachineData) → Keeps m n → Keeps n o → Keeps m o
-keeps_then m n o k l = record { good = l.good; extends = extends_then m n o k.extends l.extends }
-
-pub gate_keeps : (m n : MachineData) (kind : FitKind) (inputs : List ℕ) (r : Result ℕ AddFault) → IsMachine m → IfOk r (λ net. HasGate m kind inputs (with_net n net)) → OnErr r (n ≡ m) → Keeps m n
-gate_keeps m n kind inputs (Ok net) good there same = record { good = there.good; extends = there.extends }
-gate_keeps m n kind inputs (Err fault) good there same = keeps_same m n good same
-
-pub delay_keeps : (m n : MachineData) (x : ℕ) (r : Result ℕ AddFault) → IsMachine m → IfOk r (λ net. HasDelay m x (with_net n net)) → OnErr r (n ≡ m) → Keeps m n
-delay_keeps m n x (Ok net) good there same = record { good = there.good; extends = there.extends }
-delay_keeps m n x (Err fault) good there same = keeps_same m n good same
 
 -- a fault of a first addition is one of all
 pub passes_then : {A B : Type 0} (wanted : Result A AddFault) (later : A → Result B AddFault) (fault : AddFault) → MayFail wanted fault → MayFail (and_then wanted later) fault
@@ -91,6 +76,10 @@ delay_on k i a n net below is =
 abbrev pub behind_nets : List ℕ → Result AddedNets AddFault → Result AddedNets AddFault
 behind_nets before (Ok b) = Ok (record { machine = b.machine; nets = before ++ b.nets })
 behind_nets before (Err fault) = Err fault
+
+pub behind_no_nets : (nets : List ℕ) (r : Result AddedNets AddFault) → nets ≡ [] → behind_nets nets r ≡ r
+behind_no_nets nets (Ok b) none = ap (λ l. Ok (record { machine = b.machine; nets = l ++ b.nets })) none
+behind_no_nets nets (Err fault) none = refl
 
 pub all_kept : (m n : MachineData) → Extends m n → (nets : List ℕ) → AllByRecursion (IsNet m) nets → AllByRecursion (IsNet n) nets
 all_kept m n e [] all = tt

@@ -1,30 +1,13 @@
 -- Certificates that are put behind others.
-use Rattle.std.proofs.Common.{◌≡◌, ℕ, List, [], ◌∷◌, ◌++◌, map, length, take, refl, sym, ◌∙◌, ap, subst, append_assoc}
+use Rattle.std.proofs.Common.{◌≡◌, List, [], ◌∷◌, ◌++◌, length, take, refl, sym, ◌∙◌, ap, subst, append_assoc}
 use Rattle.std.proofs.lemmas.List.{append-nil}
-use Rattle.cg_hint_laws.specs.Answers.{AreAppended, AreCertified, Certifies, RegisterClaim}
+use Rattle.cg_hint_laws.specs.Answers.{AreAppended, AreCertified, RegisterClaim}
 use Rattle.cg_hint_laws.specs.declared.certificate.HintCertificate.{HintCertificate}
-use Rattle.cg_hint_laws.specs.declared.hint.Hint.{Hint}
-use Rattle.cg_hints.specs.inner.Deciding.{Grow, IsCertified}
-use Rattle.cg_machine.specs.Machine.{MachineData}
+use Rattle.cg_hints.specs.inner.Deciding.{Grow}
 
 -- none
 pub appended_none : (before after : List HintCertificate) → after ≡ before → AreAppended [] before after
 appended_none before after same = record { more = []; whole = same ∙ sym (append-nil before); certified = refl }
-
--- one more
-certified_more : (claims : List RegisterClaim) (more : List HintCertificate) (c : RegisterClaim) (certificate : HintCertificate) → AreCertified claims more → Certifies c certificate
-    → AreCertified (claims ++ c ∷ []) (more ++ certificate ∷ [])
-certified_more [] more c certificate are certifies = subst (λ l. AreCertified (c ∷ []) (l ++ certificate ∷ [])) (sym are) (certifies, refl)
-certified_more (d ∷ claims) [] c certificate are certifies = absurd are
-certified_more (d ∷ claims) (e ∷ more) c certificate are certifies = (are.0, certified_more claims more c certificate are.1 certifies)
-
-pub appended_more : (m : MachineData) (h : Hint) (number r : ℕ) (claims : List RegisterClaim) (before middle after : List HintCertificate) → AreAppended claims before middle
-    → IsCertified m h number r middle after → AreAppended (claims ++ record { machine = m; hint = h; number = number; register = r } ∷ []) before after
-appended_more m h number r claims before middle after all one = record {
-  more = all.more ++ one.certificate ∷ [];
-  whole = one.whole ∙ (ap (λ l. l ++ one.certificate ∷ []) all.whole ∙ append_assoc before all.more (one.certificate ∷ []));
-  certified = certified_more claims all.more (record { machine = m; hint = h; number = number; register = r }) one.certificate all.certified one.certifies;
-}
 
 -- many more
 certified_all : (claims later : List RegisterClaim) (more rest : List HintCertificate) → AreCertified claims more → AreCertified later rest → AreCertified (claims ++ later) (more ++ rest)
@@ -34,6 +17,13 @@ certified_all (d ∷ claims) later (e ∷ more) rest are all = (are.0, certified
 
 pub appended_all : (claims later : List RegisterClaim) (before after : List HintCertificate) → AreCertified claims before → AreAppended later before after → AreCertified (claims ++ later) after
 appended_all claims later before after are all = subst (AreCertified (claims ++ later)) (sym all.whole) (certified_all claims later before all.more are all.certified)
+
+pub appended_more : (claims later : List RegisterClaim) (before middle after : List HintCertificate) → AreAppended claims before middle → AreAppended later middle after → AreAppended (claims ++ later) before after
+appended_more claims later before middle after all one = record {
+  more = all.more ++ one.more;
+  whole = one.whole ∙ (ap (λ l. l ++ one.more) all.whole ∙ append_assoc before all.more one.more);
+  certified = certified_all claims later all.more one.more all.certified one.certified;
+}
 
 -- what stands before is left
 pub taken_back : (before after : List HintCertificate) → Grow before after → take (length before) after ≡ before

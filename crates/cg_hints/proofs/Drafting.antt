@@ -1,20 +1,22 @@
 -- Hints that are being tried, one after another.
-use Rattle.std.proofs.Common.{◌≡◌, ℕ, suc, ◌+◌, List, [], ◌∷◌, ◌++◌, length, Result, Ok, Err, IfOk, OnOk, refl, sym, ◌∙◌, ap, subst, arith, append_assoc, length-append}
+use Rattle.std.proofs.Common.{◌≡◌, ℕ, suc, ◌+◌, Bool, true, false, if◌then◌else◌, List, [], ◌∷◌, ◌++◌, length, Result, Ok, Err, IfOk, OnOk, refl, sym, ◌∙◌, ap, subst, arith, append_assoc}
 use Rattle.std.proofs.lemmas.List.{append-nil}
 use Rattle.cg_cell.specs.Cell.{CellData}
 use Rattle.cg_machine.specs.Machine.{IsMachine, MachineData}
 use Rattle.cg_netlist.specs.declared.fault.AddFault.{AddFault}
 use Rattle.cg_netlist.specs.declared.fault.AddFault.TheVariants.{Limit, NoMemory}
-use Rattle.cg_hint_laws.specs.Answers.{AreCertified, AreShown, AreTried, IsAnswer, MayFail, RegisterClaim, Reported, claims_for, turn_claims, without_bits}
+use Rattle.cg_hint_laws.specs.Answers.{AreAppended, AreCertified, AreShown, IsAnswer, MayFail, RegisterClaim, Reported, claims_for, turn_claims, without_bits}
 use Rattle.cg_hint_laws.specs.Effects.{and_then}
 use Rattle.cg_hint_laws.specs.Hints.{Fits}
 use Rattle.cg_hint_laws.specs.Laws.{AllFit, HintsAreSafe, IsSafe}
 use Rattle.cg_hint_laws.specs.Trying.{Answer, Hinted, Turn, after_outcome, hinted, tried, with_turn}
+use Rattle.cg_hint_laws.specs.declared.certificate.HintCertificate.{HintCertificate}
 use Rattle.cg_hint_laws.specs.declared.hint.Hint.{Hint}
 use Rattle.cg_hint_laws.specs.declared.outcome.HintOutcome.{HintOutcome}
 use Rattle.cg_hint_laws.specs.declared.outcome.HintOutcome.TheVariants.{Inserted, NeverIdle, NoCell, Refuted, Taken, Wide}
 use Rattle.cg_hint_laws.proofs.AllSafe.{TurnKeeps, all_later, turn_keeps}
 use Rattle.cg_hints.proofs.Appending.{appended_all}
+use Rattle.cg_hints.specs.Applying.{AreApplied, kept_claims}
 use Rattle.cg_hints.specs.declared.apply.Draft.{Draft}
 use Rattle.cg_hints.specs.inner.Drafting.{IsStep, IsUnderway, behind_turns, drafted}
 
@@ -73,20 +75,31 @@ behind_none : (r : Result Hinted AddFault) → r ≡ behind_turns [] r
 behind_none (Ok done) = refl
 behind_none (Err fault) = refl
 
-module _ (library : List CellData) (width : ℕ) (m : MachineData) (hs : List Hint) where
+-- the certificates of one more, where proofs are wanted
+kept_more : (proof : Bool) (turns : List Turn) (turn : Turn) (before after : List HintCertificate) → AreCertified (kept_claims proof turns) before
+    → AreAppended (if proof then claims_for (1 + length turns) turn.machine turn.hint turn.outcome else []) before after → AreCertified (kept_claims proof (turns ++ turn ∷ [])) after
+kept_more true turns turn before after are more =
+    subst (λ l. AreCertified l after) (sym (claims_more 1 turns turn)) (appended_all (turn_claims 1 turns) (claims_for (1 + length turns) turn.machine turn.hint turn.outcome) before after are more)
+kept_more false turns turn before after are more = appended_all [] [] before after are more
+
+kept_none : (proof : Bool) → kept_claims proof [] ≡ []
+kept_none true = refl
+kept_none false = refl
+
+module _ (library : List CellData) (width : ℕ) (proof : Bool) (m : MachineData) (hs : List Hint) where
   -- nothing was tried yet
-  pub underway_first : (d : Draft) → d.machine ≡ m → IsMachine m → AllFit m hs → d.outcomes ≡ [] → d.certificates.items ≡ [] → IsUnderway library width m hs hs d
+  pub underway_first : (d : Draft) → d.machine ≡ m → IsMachine m → AllFit m hs → d.outcomes ≡ [] → d.certificates.items ≡ [] → IsUnderway library width proof m hs hs d
   underway_first d same good fit outcomes certificates = record {
     turns = [];
     whole = behind_none (hinted library width m hs) ∙ ap (λ n. behind_turns [] (hinted library width n hs)) (sym same);
     shown = outcomes;
-    certified = certificates;
+    certified = subst (λ l. AreCertified l d.certificates.items) (sym (kept_none proof)) certificates;
     is_machine = subst IsMachine (sym same) good;
     fit = subst (λ n. AllFit n hs) (sym same) fit;
   }
 
   -- one more hint
-  pub underway_next : (h : Hint) (left : List Hint) (d e : Draft) → IsUnderway library width m hs (h ∷ left) d → IsStep library width h d e → IsUnderway library width m hs left e
+  pub underway_next : (h : Hint) (left : List Hint) (d e : Draft) → IsUnderway library width proof m hs (h ∷ left) d → IsStep library width proof h d e → IsUnderway library width proof m hs left e
   underway_next h left d e u s =
       let bare : HintOutcome = without_bits s.outcome in
       let turn : Turn = record { machine = d.machine; hint = h; outcome = bare } in
@@ -101,17 +114,15 @@ module _ (library : List CellData) (width : ℕ) (m : MachineData) (hs : List Hi
             ∙ (behind_more u.turns turn (hinted library width n left)
             ∙ ap (λ o. behind_turns (u.turns ++ turn ∷ []) (hinted library width o left)) (sym same)));
         shown = subst (AreShown (u.turns ++ turn ∷ [])) (sym s.outcomes) (shown_more u.turns d.outcomes turn s.outcome u.shown (refl, s.answer.1));
-        certified = subst (λ l. AreCertified l e.certificates.items)
-            (ap (λ k. turn_claims 1 u.turns ++ claims_for k d.machine h s.outcome) number
-            ∙ (ap (λ l. turn_claims 1 u.turns ++ l) (claims_bare (1 + length u.turns) d.machine h s.outcome)
-            ∙ sym (claims_more 1 u.turns turn)))
-            (appended_all (turn_claims 1 u.turns) (claims_for (length d.outcomes + 1) d.machine h s.outcome) d.certificates.items e.certificates.items u.certified s.certificates);
+        certified = kept_more proof u.turns turn d.certificates.items e.certificates.items u.certified
+            (subst (λ l. AreAppended (if proof then l else []) d.certificates.items e.certificates.items)
+            (ap (λ k. claims_for k d.machine h s.outcome) number ∙ claims_bare (1 + length u.turns) d.machine h s.outcome) s.certificates);
         is_machine = subst IsMachine (sym same) k.safe.is_machine;
         fit = subst (λ o. AllFit o left) (sym same) (all_later library d.machine n left k u.fit.1);
       }
 
   -- none is left
-  pub underway_end : (d : Draft) → IsUnderway library width m hs [] d → AreTried library width m hs (drafted d)
+  pub underway_end : (d : Draft) → IsUnderway library width proof m hs [] d → AreApplied library width proof m hs (drafted d)
   underway_end d u = record {
     done = record { machine = d.machine; turns = u.turns };
     tried = u.whole ∙ ap (λ l. Ok (record { machine = d.machine; turns = l })) (append-nil u.turns);
@@ -121,12 +132,12 @@ module _ (library : List CellData) (width : ℕ) (m : MachineData) (hs : List Hi
   }
 
   -- one is refused
-  pub underway_fails : (h : Hint) (left : List Hint) (d : Draft) (fault : AddFault) → IsUnderway library width m hs (h ∷ left) d → MayFail (tried library width d.machine h) fault
+  pub underway_fails : (h : Hint) (left : List Hint) (d : Draft) (fault : AddFault) → IsUnderway library width proof m hs (h ∷ left) d → MayFail (tried library width d.machine h) fault
       → MayFail (hinted library width m hs) fault
   underway_fails h left d NoMemory u may = tt
   underway_fails h left d (Limit limit) u may =
       u.whole ∙ ap (λ r. behind_turns u.turns (and_then r (λ outcome. and_then (hinted library width (after_outcome d.machine h outcome) left) (with_turn (record { machine = d.machine; hint = h; outcome = outcome }))))) may
 
 -- hints that were tried leave a safe machine
-pub tried_safe : HintsAreSafe → (library : List CellData) (width : ℕ) (m : MachineData) (hs : List Hint) (r : Reported) → IsMachine m → AllFit m hs → AreTried library width m hs r → IsSafe library m r.machine
-tried_safe law library width m hs r good fit t = subst (IsSafe library m) (sym t.machine) (law library width m hs t.done good fit t.tried).safe
+pub applied_safe : HintsAreSafe → (library : List CellData) (width : ℕ) (proof : Bool) (m : MachineData) (hs : List Hint) (r : Reported) → IsMachine m → AllFit m hs → AreApplied library width proof m hs r → IsSafe library m r.machine
+applied_safe law library width proof m hs r good fit t = subst (IsSafe library m) (sym t.machine) (law library width m hs t.done good fit t.tried).safe

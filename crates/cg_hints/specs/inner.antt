@@ -3,3 +3,4 @@ pub mod Deciding
 pub mod Drafting
 pub mod Judging
 pub mod Sizes
+pub mod Standing

@@ -1,91 +1,96 @@
 //! The decision of a claim that is built.
 
-ghost use Rattle.std.specs.Prelude.{◌≡◌, ℕ, IsTrue, length, map, IfOk};
-ghost use Rattle.cg_aig.specs.Aig.{aig_ops};
-ghost use Rattle.cg_claim.specs.declared.leaf.LeafBit.{LeafBit};
-ghost use Rattle.cg_hint_laws.specs.Question.{Question};
+ghost use Rattle.std.specs.Prelude.{◌≡◌, ◌∷◌, [], IfOk};
 ghost use Rattle.cg_hint_laws.specs.Trying.{question_of};
-ghost use Rattle.cg_hint_laws.specs.Violates.{IsAsked};
-ghost use Rattle.cg_hint_laws.specs.declared.hint.Hint.{Hint};
 ghost use Rattle.cg_hint_laws.specs.declared.outcome.HintClaim.TheVariants.{Hold, Idle};
-ghost use Rattle.cg_hints.specs.inner.Deciding.{Grow, IsDecided, IsIdleDecided};
-ghost use Rattle.cg_machine.specs.Machine.{IsMachine, MachineData};
+ghost use Rattle.cg_hints.specs.inner.Deciding.{CertifiesThese, Decides, Grow};
+ghost use Rattle.cg_unroll_cycles.specs.Asking.{AsksThere};
 ghost use Rattle.cg_unroll_cycles.specs.Claims.{IsCycleClaim};
 
+use crate::claims::Claims;
 use crate::judge::Judge;
-use cg_claim::leaf::{Leaf, LeafBit};
-use cg_decide::Decision;
+use crate::standing::Standing;
 use cg_hint_laws::certificate::HintCertificate;
 use cg_hint_laws::laws::hint_laws;
 use cg_hint_laws::outcome::{HintClaim, HintOutcome};
-use cg_list::Seq;
+use cg_judge::verdict::Verdict;
 use cg_net::id::RegId;
-use std::alloc::{AllocError, Global};
+use std::alloc::AllocError;
 
 impl Judge {
-    /// Decides the claim that was built last, as the claim that a condition can be 0. Where it holds never, the answer is that
-    /// the hint is never idle.
-    pub(crate) fn decide_idle(&mut self) -> Result<Option<HintOutcome>, AllocError>
-        requires { IsTrue (aig_ops.is_valid self.old.unroller.aig self.old.unroller.goal) }
-        ensures { IfOk result (λ end. (m : MachineData) (h : Hint) (width : ℕ) → IsMachine m → IsAsked m (question_of h Idle)
-            → IsCycleClaim m (question_of h Idle) width self.old.unroller → IsIdleDecided m h end) }
+    /// Decides a claim that was built last, and puts its certificate behind `into` where it holds and proofs are wanted.
+    pub(crate) fn decide(
+        &mut self,
+        claims: &Claims<'_>,
+        claim: HintClaim,
+        into: &mut Vec<HintCertificate>,
+    ) -> Result<Standing, AllocError>
+        requires there { AsksThere claims.now.machine.now (question_of claims.now.hint.now claim) }
+        requires built { IsCycleClaim claims.now.machine.now (question_of claims.now.hint.now claim) claims.now.width self.old.unroller }
+        ensures decides { IfOk result (Decides claims.now.machine.now claims.now.hint.now claim) }
+        ensures certified { IfOk result
+            (CertifiesThese claims.now.proof claims.now.number claims.now.machine.now claims.now.hint.now (claim ∷ []) into.old.items into.new.items) }
+        ensures grown { Grow into.old.items into.new.items }
     {
-        hint_laws();
-        match self
-            .decider
-            .decide(self.unroller.aig(), self.unroller.goal())?
-        {
-            Decision::Never(_, _) => Ok(Some(HintOutcome::NeverIdle)),
-            Decision::Sometimes(_) => Ok(None),
+        match claim {
+            HintClaim::Idle => self.decide_idle(claims),
+            HintClaim::Hold(reg) => self.decide_register(claims, reg, into),
         }
     }
 
-    /// Decides the claim that was built last, as that of this register of the hint of this number. Where it holds, its
-    /// certificate is put behind `into`; else the answer is that the hint is refuted by it.
-    pub(crate) fn decide(
+    /// Decides the claim that the condition can be 0, which was built last.
+    fn decide_idle(&mut self, claims: &Claims<'_>) -> Result<Standing, AllocError>
+        requires there { AsksThere claims.now.machine.now (question_of claims.now.hint.now Idle) }
+        requires built { IsCycleClaim claims.now.machine.now (question_of claims.now.hint.now Idle) claims.now.width self.old.unroller }
+        ensures { IfOk result (Decides claims.now.machine.now claims.now.hint.now Idle) }
+    {
+        hint_laws();
+        let _netlist = claims.machine.netlist();
+        let idles = self
+            .decider
+            .is_ever_one(self.unroller.aig(), self.unroller.goal())?;
+        if idles {
+            return Ok(Standing::Open);
+        }
+        Ok(Standing::Settled(HintOutcome::NeverIdle))
+    }
+
+    /// Decides the claim of a register, which was built last.
+    fn decide_register(
         &mut self,
-        number: u32,
+        claims: &Claims<'_>,
         reg: RegId,
         into: &mut Vec<HintCertificate>,
-    ) -> Result<Option<HintOutcome>, AllocError>
-        requires { IsTrue (aig_ops.is_valid self.old.unroller.aig self.old.unroller.goal) }
-        ensures decided { IfOk result (λ end. (m : MachineData) (h : Hint) (width : ℕ) → IsMachine m → IsAsked m (question_of h (Hold reg))
-            → IsCycleClaim m (question_of h (Hold reg)) width self.old.unroller → IsDecided m h number reg into.old.items into.new.items end) }
+    ) -> Result<Standing, AllocError>
+        requires there { AsksThere claims.now.machine.now (question_of claims.now.hint.now (Hold reg)) }
+        requires built { IsCycleClaim claims.now.machine.now (question_of claims.now.hint.now (Hold reg)) claims.now.width self.old.unroller }
+        ensures decides { IfOk result (Decides claims.now.machine.now claims.now.hint.now (Hold reg)) }
+        ensures certified { IfOk result
+            (CertifiesThese claims.now.proof claims.now.number claims.now.machine.now claims.now.hint.now (Hold reg ∷ []) into.old.items into.new.items) }
         ensures grown { Grow into.old.items into.new.items }
     {
         hint_laws();
-        match self
-            .decider
-            .decide(self.unroller.aig(), self.unroller.goal())?
-        {
-            Decision::Never(formula, log) => {
+        let _netlist = claims.machine.netlist();
+        match self.decider.decide(
+            self.unroller.aig(),
+            self.unroller.goal(),
+            self.unroller.leaves(),
+            claims.proof,
+        )? {
+            Verdict::Never(None) => Ok(Standing::Open),
+            Verdict::Never(Some(proof)) => {
                 into.push(HintCertificate {
-                    number,
+                    number: claims.number,
                     reg,
-                    formula,
-                    log,
+                    formula: proof.formula,
+                    log: proof.log,
                 })?;
-                Ok(None)
+                Ok(Standing::Open)
             }
-            Decision::Sometimes(bits) => {
-                let bits = leaf_bits(self.alloc, self.unroller.leaves(), bits.as_slice())?;
-                Ok(Some(HintOutcome::Refuted(HintClaim::Hold(reg), bits)))
-            }
+            Verdict::Sometimes(bits) => Ok(Standing::Settled(HintOutcome::Refuted(
+                HintClaim::Hold(reg),
+                bits,
+            ))),
         }
     }
-}
-
-/// Leaves with their bits.
-fn leaf_bits(alloc: Global, leaves: &[Leaf], bits: &[bool]) -> Result<Seq<LeafBit>, AllocError>
-    ensures leaves { IfOk result (λ seq. length bits.now ≡ length leaves.now → map (λ (b : LeafBit). b.leaf) seq ≡ leaves.now) }
-    ensures bits { IfOk result (λ seq. length bits.now ≡ length leaves.now → map (λ (b : LeafBit). b.bit) seq ≡ bits.now) }
-{
-    let mut seq = Seq::new(alloc);
-    for (leaf, bit) in leaves.iter().zip(bits) {
-        seq.push(LeafBit {
-            leaf: *leaf,
-            bit: *bit,
-        })?;
-    }
-    Ok(seq)
 }

@@ -10,7 +10,8 @@ ghost use Rattle.cg_stage_laws.specs.Joined.{enabled};
 ghost use Rattle.cg_hint_laws.specs.Effects.{condition_answer, delayed_by, effect, for_each, hint_answer, joined_from, joined_with, literal_answer, term_answer};
 ghost use Rattle.cg_hint_laws.specs.Hints.{Fits};
 ghost use Rattle.cg_hint_laws.specs.Answers.{MayFail};
-ghost use Rattle.cg_hints.specs.inner.Adding.{AddsAs, AddsNets, Keeps};
+ghost use Rattle.cg_hints.specs.inner.Adding.{AddsAs, AddsNets};
+ghost use Rattle.cg_stage_laws.specs.Appends.{Keeps};
 
 use cg_cell::fit::FitKind;
 use cg_hint_laws::hint::Hint;
@@ -188,7 +189,7 @@ pub(crate) fn insert(alloc: Global, machine: &mut Machine, hint: &Hint) -> Resul
     requires { Fits machine.old hint.now }
     ensures effect { OnOk result (effect machine.old hint.now ≡ Ok machine.new) }
     ensures fault { IfErr result (MayFail (effect machine.old hint.now)) }
-    ensures kept { OnErr result (Extends machine.old machine.new) }
+    ensures kept { OnErr result (Keeps machine.old machine.new) }
 {
     let _netlist = machine.netlist();
     let condition = add_condition(alloc, machine, hint.terms.as_slice())?;

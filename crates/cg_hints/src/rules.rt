@@ -3,11 +3,17 @@
 use cg_cell::library::Library;
 use cg_hint_laws::hint::Hint;
 
-/// By what hints are judged: the cells that there are, and how many leaves a claim may have.
+/// By what hints are judged.
 #[derive(Clone, Copy)]
-pub(crate) struct Rules<'a> {
+pub struct Rules<'a> {
+    /// The cells that may be placed.
     pub library: &'a Library,
+
+    /// How many leaves a claim may have.
     pub width: u32,
+
+    /// Whether proofs are wanted of the claims of the hints that are inserted.
+    pub proof: bool,
 }
 
 /// A hint with its number, counted from 1.

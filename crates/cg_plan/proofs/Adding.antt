@@ -1,6 +1,6 @@
 -- Nets that are added to a machine, and the limits that this passes.
 use Rattle.std.proofs.Common.{◌≡◌, ℕ, suc, ◌+◌, ◌<◌, true, List, [], ◌∷◌, map, length, slice_get, drop, take, false, ◌-◌, nat_eq}
-use Rattle.std.proofs.Common.{zero, Option, None, Some, Result, Ok, Err, IfOk, IfErr, OnErr, refl, sym, ◌∙◌, ap, subst, arith, ◌⊎◌}
+use Rattle.std.proofs.Common.{zero, Option, None, Some, Result, Ok, Err, IfOk, IfErr, OnErr, refl, sym, ◌∙◌, ap, arith, ◌⊎◌}
 use Rattle.std.proofs.Common.{inl, inr}
 use Rattle.std.specs.Option.{option_map, option_or}
 use Rattle.std.proofs.lemmas.Bool.{both_ways, eq-eqb, or_left, or_right}
@@ -15,7 +15,6 @@ use Rattle.cg_machine.specs.Extends.{GateFits, HasDelay, HasGate}
 use Rattle.cg_machine.specs.Gates.{HasInputs}
 use Rattle.cg_machine.specs.Machine.{IsMachine, IsNet, MachineData, enable_of}
 use Rattle.cg_machine.specs.declared.stage.Stage.{Stage}
-use Rattle.cg_machine.proofs.Extended.{extends_self, extends_then}
 use Rattle.cg_net.specs.NetSets.{is_in}
 use Rattle.cg_netlist.specs.declared.fault.AddFault.{AddFault}
 use Rattle.cg_netlist.specs.declared.fault.AddFault.TheVariants.{Limit as LimitFault, NoMemory}
@@ -24,8 +23,6 @@ use Rattle.cg_stage_laws.specs.Effects.{delayed, own_limit}
 use Rattle.cg_stage_laws.specs.Joined.{join, join_all, join_all_limit, join_limit}
 use Rattle.cg_stage_laws.specs.Stages.{Fits}
 use Rattle.cg_stage_laws.proofs.Joins.{two_nets}
-use Rattle.cg_plan.proofs.Appended.{appends_self, appends_then, delay_appends, gate_appends}
-use Rattle.cg_plan.specs.Trial.{Appends, Keeps}
 use Rattle.cg_plan.specs.inner.Inserting.{AddsNet, MayPass, delayed_limit}
 
 -- what an addition answers
@@ -42,15 +39,9 @@ passes (Some limit) added (LimitFault passed) (inr h) = cc
 abbrev with_net : MachineData → ℕ → Added
 with_net n net = record { machine = n; net = net }
 
-pub keeps_self : (m n : MachineData) → IsMachine m → n ≡ m → Keeps m n
-keeps_self m n good is = subst (Keeps m) (sym is) (record { good = good; extends = extends_self m; appends = appends_self m })
-
 pub on_err : {A : Type 0} (P : Type 0) (r : Result A AddFault) → P → OnErr r P
 on_err P (Ok x) is = tt
 on_err P (Err fault) is = is
-
-pub keeps_then : (m n o : MachineData) → Keeps m n → Keeps n o → Keeps m o
-keeps_then m n o k l = record { good = l.good; extends = extends_then m n o k.extends l.extends; appends = appends_then m n o k.appends l.appends }
 
 module _ (m n : MachineData) (kind : FitKind) (inputs : List ℕ) where
   pub gate_ok : (r : Result ℕ AddFault) → OrNoMemory NoMemory (with_net n) r (gate_answer m kind inputs) → IfOk r (λ net. HasGate m kind inputs (with_net n net)) → IfOk r (AddsNet (gate_limit m kind inputs) (add_gate m kind inputs) n)
@@ -61,12 +52,6 @@ module _ (m n : MachineData) (kind : FitKind) (inputs : List ℕ) where
   gate_err (Ok net) answer = tt
   gate_err (Err fault) answer = passes (gate_limit m kind inputs) (add_gate m kind inputs) fault answer
 
-  pub gate_keeps : (r : Result ℕ AddFault) → IsMachine m → OrNoMemory NoMemory (with_net n) r (gate_answer m kind inputs) → IfOk r (λ net. HasGate m kind inputs (with_net n net)) → OnErr r (n ≡ m) → Keeps m n
-  gate_keeps (Ok net) good answer there same =
-      let is = (adds (gate_limit m kind inputs) (add_gate m kind inputs) n net answer there.is_net).is in
-      record { good = there.good; extends = there.extends; appends = subst (λ (a : Added). Appends m a.machine) is (gate_appends m good kind inputs) }
-  gate_keeps (Err fault) good answer there same = keeps_self m n good same
-
 module _ (m n : MachineData) (x : ℕ) where
   pub delay_ok : (r : Result ℕ AddFault) → OrNoMemory NoMemory (with_net n) r (delay_answer m x) → IfOk r (λ net. HasDelay m x (with_net n net)) → IfOk r (AddsNet (delay_limit m x) (add_delay m x) n)
   delay_ok (Ok net) answer there = adds (delay_limit m x) (add_delay m x) n net answer there.is_net
@@ -75,12 +60,6 @@ module _ (m n : MachineData) (x : ℕ) where
   pub delay_err : (r : Result ℕ AddFault) → OrNoMemory NoMemory (with_net n) r (delay_answer m x) → IfErr r (MayPass (delay_limit m x))
   delay_err (Ok net) answer = tt
   delay_err (Err fault) answer = passes (delay_limit m x) (add_delay m x) fault answer
-
-  pub delay_keeps : (r : Result ℕ AddFault) → IsMachine m → OrNoMemory NoMemory (with_net n) r (delay_answer m x) → IfOk r (λ net. HasDelay m x (with_net n net)) → OnErr r (n ≡ m) → Keeps m n
-  delay_keeps (Ok net) good answer there same =
-      let is = (adds (delay_limit m x) (add_delay m x) n net answer there.is_net).is in
-      record { good = there.good; extends = there.extends; appends = subst (λ (a : Added). Appends m a.machine) is (delay_appends m good x) }
-  delay_keeps (Err fault) good answer there same = keeps_self m n good same
 
 -- a first limit, and one behind it
 pub passes_first : (a b : Option Limit) (fault : AddFault) → MayPass a fault → MayPass (option_or a b) fault

@@ -3,27 +3,19 @@ use Rattle.std.proofs.Common.{◌≡◌, ℕ, Bool, true, false, if◌then◌els
 use Rattle.std.proofs.Common.{Some, refl, sym, ◌∙◌, ap, subst, append_assoc}
 use Rattle.std.proofs.lemmas.List.{append-nil}
 use Rattle.std.proofs.lemmas.List.Elements.{All-append, All-cons, All-nil}
-use Rattle.std.specs.declared.alloc.Global.{Global}
-use Rattle.std.specs.declared.vec.Vec.{Vec}
 use Rattle.cg_aig.specs.Aig.{aig_ops}
 use Rattle.cg_claim.specs.Build.{claim_run}
 use Rattle.cg_claim.specs.Laws.{GoalViolates, NeverIsTried}
-use Rattle.cg_claim.specs.LeafBits.{is_never, violates_at}
+use Rattle.cg_claim.specs.LeafBits.{is_never}
 use Rattle.cg_claim.specs.Leaves.{leaves_of, shown_leaf}
 use Rattle.cg_claim.specs.Question.{Question}
 use Rattle.cg_claim.specs.Violates.{SidesFit}
 use Rattle.cg_claim.specs.declared.leaf.LeafBit.{LeafBit}
 use Rattle.cg_claim.specs.declared.name.ClaimName.{ClaimName}
-use Rattle.cg_cnf.specs.Clauses.{IsOneAt, formula_of}
-use Rattle.cg_decide.specs.Decision.{IsExact, IsNeverOne, IsProved, IsWritableDecision as CanBeWritten}
-use Rattle.cg_cell.specs.Domain.{Seen}
-use Rattle.cg_decide.specs.declared.decision.Decision.{Decision}
-use Rattle.cg_decide.specs.declared.decision.Decision.TheVariants.{Never, Sometimes}
-use Rattle.cg_formula.specs.Bounds.{IsFormula}
-use Rattle.cg_formula.specs.declared.formula.Formula.{Formula}
-use Rattle.cg_lrat.specs.Bounds.{AreNumbered, IsLog}
-use Rattle.cg_lrat.specs.declared.log.Log.{Log}
-use Rattle.cg_hold.proofs.Decided.{decided_never, decided_sometimes, exactly_never, exactly_sometimes, told}
+use Rattle.cg_cnf.specs.Clauses.{formula_of}
+use Rattle.cg_decide.specs.Decision.{IsNeverOne}
+use Rattle.cg_judge.specs.Verdict.{AreBits, IsGoal}
+use Rattle.cg_hold.proofs.Decided.{decided_never, decided_sometimes, told}
 use Rattle.cg_hold.proofs.ListNumber.{claim_number}
 use Rattle.cg_lrat.specs.AcceptedLog.{IsAccepted}
 use Rattle.cg_machine.specs.Machine.{IsMachine, MachineData}
@@ -43,19 +35,15 @@ nothing_more before after is = record { more = []; whole = is ∙ sym (append-ni
 
 module _ (goals : GoalViolates) (law : NeverIsTried) (m : MachineData) (q : Question) (width : ℕ) (claim : Claim) (good : IsMachine m) (fits : SidesFit m q.sides) (is : IsClaim m q width claim) where
   -- bits at which the goal is 1
-  pub settled_bits : (bits : List Bool) → IsOneAt claim.aig claim.goal bits → (seq : List LeafBit)
-      → (length bits ≡ length claim.leaves → map (λ (b : LeafBit). b.leaf) seq ≡ claim.leaves) → (length bits ≡ length claim.leaves → map (λ (b : LeafBit). b.bit) seq ≡ bits)
-      → (is_never m q ≡ false) × DoViolate m q seq
-  settled_bits bits one seq leaves_are bits_are = (
-    sym (decided_sometimes law m q width claim good fits (told m q width claim is) bits one),
-    record {
-      leaves = leaves_are long ∙ is.leaves;
-      violated = ap (violates_at m q) (bits_are long) ∙ (sym (goals m q bits good fits) ∙ (sym (ap (λ s. aig_ops.bit s bits claim.goal) is.list ∙ ap (λ a. aig_ops.bit (claim_run m q).domain bits a) is.goal) ∙ one.one));
-    },
-  )
-    where
-      long : length bits ≡ length claim.leaves
-      long = one.each_leaf ∙ (ap (λ s. s.number) is.list ∙ (claim_number m q ∙ (sym (map_length shown_leaf (leaves_of m q)) ∙ ap length (sym is.leaves))))
+  pub settled_bits : (seq : List LeafBit) → AreBits claim.aig claim.goal claim.leaves seq → (is_never m q ≡ false) × DoViolate m q seq
+  settled_bits seq are =
+      let bits : List Bool = map (λ (b : LeafBit). b.bit) seq in (
+        sym (decided_sometimes law m q width claim good fits (told m q width claim is) bits are.one),
+        record {
+          leaves = are.leaves ∙ is.leaves;
+          violated = sym (goals m q bits good fits) ∙ (sym (ap (λ s. aig_ops.bit s bits claim.goal) is.list ∙ ap (λ a. aig_ops.bit (claim_run m q).domain bits a) is.goal) ∙ are.one.one);
+        },
+      )
 
   -- a certificate that the goal is never 1, where proofs are wanted
   pub settled_never : (proof : Bool) (number : ℕ) (name : ClaimName) (before after : List Certificate) (certificate : Certificate) → proof ≡ true → IsNeverOne claim.aig claim.goal
@@ -88,20 +76,12 @@ module _ (goals : GoalViolates) (law : NeverIsTried) (m : MachineData) (q : Ques
     },
   )
 
--- a decision, as it is told
-pub never_decided : (s t : Seen) (g h : ℕ) (d : Decision) (f : Formula) (log : Log) → s ≡ t → g ≡ h → IsExact s g d → d ≡ Never f log → IsNeverOne t h
-never_decided s t g h d f log same goals exact is = subst (λ z. IsNeverOne z h) same (subst (λ z. IsNeverOne s z) goals (exactly_never s g d f log exact is))
-
-pub sometimes_decided : (s t : Seen) (g h : ℕ) (d : Decision) (bits : Vec Bool Global) → s ≡ t → g ≡ h → IsExact s g d → d ≡ Sometimes bits → IsOneAt t h bits.items
-sometimes_decided s t g h d bits same goals exact is = subst (λ z. IsOneAt z h bits.items) same (subst (λ z. IsOneAt s z bits.items) goals (exactly_sometimes s g d bits exact is))
-
-pub proved_decided : (s t : Seen) (g h : ℕ) (d : Decision) (f : Formula) (log : Log) → s ≡ t → g ≡ h → IsProved s g d → d ≡ Never f log → (f ≡ formula_of t h) × IsAccepted f log
-proved_decided s t g h d f log same goals proved is =
-    let p : (f ≡ formula_of s g) × IsAccepted f log = subst (IsProved s g) is proved in
-    (p.0 ∙ (ap (λ z. formula_of z g) same ∙ ap (formula_of t) goals), p.1)
-
-pub writable_decided : (d : Decision) (f : Formula) (log : Log) → CanBeWritten d → d ≡ Never f log → IsFormula f × IsLog log
-writable_decided d f log can is = let p : IsFormula f × IsLog log × AreNumbered log.steps = subst CanBeWritten is can in (p.0, p.1)
+-- a claim that is built has a goal
+pub goal_is : (m : MachineData) (q : Question) (width : ℕ) (claim : Claim) → IsClaim m q width claim → IsGoal claim.aig claim.goal claim.leaves
+goal_is m q width claim is = record {
+  valid = is.valid;
+  each_leaf = ap length is.leaves ∙ (map_length shown_leaf (leaves_of m q) ∙ sym (ap (λ s. s.number) is.list ∙ claim_number m q));
+}
 
 -- certificates of claims and of one more
 certified_more : (claims more : List StageClaim) (first second : List Certificate) → AreCertified claims first → AreCertified more second → AreCertified (claims ++ more) (first ++ second)

@@ -7,7 +7,6 @@ pub mod Naming
 pub mod Noted
 pub mod Measuring
 pub mod Deciding
-pub mod Appended
 pub mod Adding
 pub mod Judging
 pub mod Tried

@@ -22,7 +22,7 @@ use Rattle.cg_claim_reach.specs.Fanout.{Grows}
 use Rattle.cg_stage_laws.specs.Effects.{delayed, limit_by, literal_net, net_by, with_own}
 use Rattle.cg_stage_laws.specs.Joined.{enabled, join, join_all}
 use Rattle.cg_stage_laws.specs.Stages.{enable_nets, first_literal}
-use Rattle.cg_plan.specs.Trial.{Keeps}
+use Rattle.cg_stage_laws.specs.Appends.{Keeps}
 use Rattle.cg_plan.specs.inner.Inserting.{AddsNet}
 
 -- n has the cells of m, with more behind them or none

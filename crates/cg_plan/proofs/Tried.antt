@@ -1,5 +1,5 @@
 -- What trying a stage does, from its outcome.
-use Rattle.std.proofs.Common.{◌≡◌, ℕ, true, false, if◌then◌else◌, List, [], refl, sym, subst}
+use Rattle.std.proofs.Common.{◌≡◌, ℕ, Bool, true, false, if◌then◌else◌, List, [], refl, sym, subst}
 use Rattle.std.proofs.lemmas.Bool.{both_ways}
 use Rattle.cg_cell.specs.Cell.{CellData}
 use Rattle.cg_machine.specs.Machine.{IsMachine, MachineData}
@@ -54,10 +54,10 @@ module _ (library : List CellData) (settings : Settings) (m : MachineData) (good
       writable = writable;
     }
 
-    pub tried_other : is_inserted o ≡ false → after ≡ before → IsTried library settings number m s before o n after
+    tried_other : is_inserted o ≡ false → after ≡ before → IsTried library settings number m s before o n after
     tried_other ends same = whole (appended_none settings.proof m s number before after o ends same) (writable_same before after same)
 
-    pub tried_inserted : is_inserted o ≡ true → Pushes settings.proof m number s before after o → IsTried library settings number m s before o n after
+    tried_inserted : is_inserted o ≡ true → Pushes settings.proof m number s before after o → IsTried library settings number m s before o n after
     tried_inserted ends pushes = let p = pushed o ends pushes in whole p.0 p.1
       where
         pushed : (q : Outcome) → is_inserted q ≡ true → Pushes settings.proof m number s before after q → AreAppended (if settings.proof then claims_for number m s q else []) before after × StayWritable before after
@@ -67,3 +67,12 @@ module _ (library : List CellData) (settings : Settings) (m : MachineData) (good
         pushed NeverIdle inserted all = absurd (both_ways false refl inserted)
         pushed (Small registers) inserted all = absurd (both_ways false refl inserted)
         pushed (NoCell kind) inserted all = absurd (both_ways false refl inserted)
+
+  -- where the certificates that were put behind are kept, or taken back
+  pub tried_so : (number : ℕ) (before pushed after : List Certificate) (o : Outcome) → TellsOutcome m s (tried library settings m s) o → n ≡ after_outcome m s o → Pushes settings.proof m number s before pushed o
+      → (is_inserted o ≡ true → after ≡ pushed) → (is_inserted o ≡ false → after ≡ before) → IsTried library settings number m s before o n after
+  tried_so number before pushed after o tells is pushes kept back = by (is_inserted o) refl
+    where
+      by : (b : Bool) → is_inserted o ≡ b → IsTried library settings number m s before o n after
+      by true ends = subst (λ l. IsTried library settings number m s before o n l) (sym (kept ends)) (tried_inserted number before pushed o tells is ends pushes)
+      by false ends = tried_other number before after o tells is ends (back ends)

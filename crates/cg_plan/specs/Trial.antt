@@ -1,12 +1,9 @@
 -- What trying a stage does to a machine and to the certificates.
-use Rattle.std.specs.Prelude.{◌≡◌, ℕ, if◌then◌else◌, List, [], ◌++◌, map, None}
+use Rattle.std.specs.Prelude.{◌≡◌, ℕ, if◌then◌else◌, List, []}
 use Rattle.cg_cell.specs.Cell.{CellData}
-use Rattle.cg_machine.specs.Added.{HasNames, own_netlist}
-use Rattle.cg_machine.specs.Extends.{Extends}
-use Rattle.cg_machine.specs.Gates.{AddedGate, gate_cell}
-use Rattle.cg_machine.specs.Machine.{IsMachine, MachineData}
+use Rattle.cg_stage_laws.specs.Appends.{Keeps}
+use Rattle.cg_machine.specs.Machine.{MachineData}
 use Rattle.cg_machine.specs.declared.stage.Stage.{Stage}
-use Rattle.cg_netlist.specs.Circuit.{RegisterCell}
 use Rattle.cg_netlist.specs.declared.fault.AddFault.{AddFault}
 use Rattle.cg_plan.specs.Planning.{StayWritable}
 use Rattle.cg_plan_laws.specs.Outcomes.{Deserves}
@@ -24,30 +21,6 @@ use Rattle.cg_stage_laws.specs.Laws.{After}
 abbrev pub WhereInserted : MachineData → Stage → Outcome → MachineData → Type 0
 WhereInserted m s Inserted n = After m s n
 WhereInserted m s _ n = Unit {0}
-
--- n is m with gates and registers behind all that m has, and nothing else: the netlist that m was made of and the prefix of the
--- names of added nets are m's, and no register of m has another enable, and none behind them has one
-pub record Appends (m n : MachineData) : Type 0 where
-  pub netlist : own_netlist n ≡ own_netlist m
-  pub prefix : n.prefix ≡ m.prefix
-  pub own_cells : n.own_cells ≡ m.own_cells
-  pub own_registers : n.own_registers ≡ m.own_registers
-  pub more_names : List (List ℕ)
-  pub more_gates : List AddedGate
-  pub more_registers : List (RegisterCell ℕ ℕ)
-  pub names : n.circuit.names ≡ m.circuit.names ++ more_names
-  pub gates : n.gates ≡ m.gates ++ more_gates
-  pub cells : n.circuit.cells ≡ m.circuit.cells ++ map gate_cell more_gates
-  pub registers : n.circuit.registers ≡ m.circuit.registers ++ more_registers
-  pub enables : n.enables ≡ m.enables ++ map (λ register. None) more_registers
-  pub named : HasNames m → HasNames n
-
--- n is a machine that has all that m has, in which m's nets show what they show in m; behind that stand gates and delay registers
--- that were added, or none, and nothing else
-pub record Keeps (m n : MachineData) : Type 0 where
-  pub good : IsMachine n
-  pub extends : Extends m n
-  pub appends : Appends m n
 
 -- A stage was tried on m as the stage of this number, and n is the machine after it. What the outcome says is so. An inserted
 -- stage has its effect, and the certificates of its claims stand behind those from before where the settings ask for proofs, and

@@ -7,7 +7,7 @@ ghost use Rattle.cg_machine.specs.Added.{add_delay, add_gate, delay_limit, gate_
 ghost use Rattle.cg_machine.specs.Extends.{GateFits};
 ghost use Rattle.cg_machine.specs.Machine.{IsNet};
 ghost use Rattle.cg_net.specs.NetSets.{is_in};
-ghost use Rattle.cg_plan.specs.Trial.{Keeps};
+ghost use Rattle.cg_stage_laws.specs.Appends.{Keeps};
 ghost use Rattle.cg_plan.specs.inner.Inserting.{AddsNet, MayPass, delayed_limit, literal_limit};
 ghost use Rattle.cg_claim_reach.specs.Fanout.{Knows};
 ghost use Rattle.cg_stage_laws.specs.Effects.{delayed, effect, limit_by, literal_net, net_by, with_own};

@@ -1,7 +1,6 @@
 //! What tries stages one after another, and decides a claim that is built.
 
-ghost use Rattle.std.specs.Prelude.{◌≡◌, ℕ, IsTrue, IfOk, IfErr, OnErr, OnOk, true, false, length, map};
-ghost use Rattle.cg_aig.specs.Aig.{aig_ops};
+ghost use Rattle.std.specs.Prelude.{◌≡◌, ℕ, IfOk, IfErr, OnErr, OnOk, true};
 ghost use Rattle.cg_claim.specs.Question.{Question, idle_question};
 ghost use Rattle.cg_claim.specs.Violates.{SidesFit};
 ghost use Rattle.cg_machine.specs.Machine.{IsMachine, MachineData};
@@ -10,26 +9,26 @@ ghost use Rattle.cg_plan_laws.specs.Plan.{after_outcome};
 ghost use Rattle.cg_plan_laws.specs.StageClaims.{claims_of};
 ghost use Rattle.cg_plan_laws.specs.Reported.{MayFail, TellsOutcome};
 ghost use Rattle.cg_plan_laws.specs.Trying.{decided, measured, tried};
-ghost use Rattle.cg_plan.specs.Trial.{IsRefused, IsTried, Keeps};
+ghost use Rattle.cg_stage_laws.specs.Appends.{Keeps};
+ghost use Rattle.cg_plan.specs.Trial.{IsRefused, IsTried};
 ghost use Rattle.cg_plan.specs.inner.Deciding.{Grow, IsIdleDecided, Settles, IsDecided};
 ghost use Rattle.cg_plan.specs.inner.Judging.{Certifying, IsJudged, Pushes, by_claims};
 ghost use Rattle.cg_plan.specs.inner.Naming.{AreNames};
 ghost use Rattle.cg_claim_reach.specs.Fanout.{Knows};
 ghost use Rattle.cg_stage_laws.specs.Stages.{Fits};
 ghost use Rattle.cg_unroll.specs.Claims.{IsClaim};
-ghost use Rattle.cg_claim.specs.declared.leaf.LeafBit.{LeafBit};
-ghost use Rattle.cg_decide.specs.Decision.{IsNeverOne};
+ghost use Rattle.cg_judge.specs.Verdict.{IsGoal};
 
 use crate::cells::early_end;
 use crate::claims::{StageSets, claim_names, measure};
 use crate::insert::insert;
 use cg_cell::library::Library;
 use cg_claim::laws::claim_laws;
-use cg_claim::leaf::{Leaf, LeafBit};
 use cg_claim::name::ClaimName;
 use cg_claim_reach::fanout::Fanout;
-use cg_decide::{Decider, Decision};
-use cg_list::Seq;
+use cg_judge::decider::ClaimDecider;
+use cg_judge::trying::keep_where;
+use cg_judge::verdict::Verdict;
 use cg_machine::machine::Machine;
 use cg_machine::stage::Stage;
 use cg_netlist::fault::AddFault;
@@ -73,7 +72,7 @@ struct Claims<'a> {
 pub(crate) struct Judge {
     alloc: Global,
     unroller: Unroller,
-    decider: Decider,
+    decider: ClaimDecider,
 }
 
 impl Judge {
@@ -82,7 +81,7 @@ impl Judge {
         Judge {
             alloc,
             unroller: Unroller::new(alloc),
-            decider: Decider::new(alloc),
+            decider: ClaimDecider::new(alloc),
         }
     }
 
@@ -112,10 +111,7 @@ impl Judge {
         let _after = machine.netlist();
         match result {
             Ok(outcome) => {
-                if outcome.is_inserted() {
-                    return Ok(outcome);
-                }
-                into.truncate(count);
+                keep_where(outcome.is_inserted(), count, into);
                 Ok(outcome)
             }
             Err(fault) => {
@@ -293,7 +289,7 @@ impl Judge {
         settled: Option<Outcome>,
         into: &mut Vec<Certificate>,
     ) -> Result<Option<Outcome>, AllocError>
-        requires { IsTrue (aig_ops.is_valid self.old.unroller.aig self.old.unroller.goal) }
+        requires { IsGoal self.old.unroller.aig self.old.unroller.goal self.old.unroller.leaves }
         ensures settles { IfOk result (λ now. (m : MachineData) (q : Question) (width : ℕ) → IsMachine m → SidesFit m q.sides
             → IsClaim m q width self.old.unroller → Settles proof m number (name.now, q) into.old.items into.new.items settled now) }
         ensures grown { Grow into.old.items into.new.items }
@@ -307,18 +303,18 @@ impl Judge {
     /// Decides the claim that was built last, as the claim that the stage can idle. Where it holds, the answer is that the
     /// stage is never idle.
     fn decide_idle(&mut self) -> Result<Option<Outcome>, AllocError>
-        requires { IsTrue (aig_ops.is_valid self.old.unroller.aig self.old.unroller.goal) }
+        requires { IsGoal self.old.unroller.aig self.old.unroller.goal self.old.unroller.leaves }
         ensures { IfOk result (λ end. (m : MachineData) (q : Question) (width : ℕ) → IsMachine m → SidesFit m q.sides
             → IsClaim m q width self.old.unroller → IsIdleDecided m q end) }
     {
         claim_laws();
-        match self
+        let idles = self
             .decider
-            .decide(self.unroller.aig(), self.unroller.goal())?
-        {
-            Decision::Never(_, _) => Ok(Some(Outcome::NeverIdle)),
-            Decision::Sometimes(_) => Ok(None),
+            .is_ever_one(self.unroller.aig(), self.unroller.goal())?;
+        if idles {
+            return Ok(None);
         }
+        Ok(Some(Outcome::NeverIdle))
     }
 
     /// Decides the claim that was built last, as the claim of this name. Where it holds and proofs are wanted, its certificate is
@@ -330,62 +326,29 @@ impl Judge {
         proof: bool,
         into: &mut Vec<Certificate>,
     ) -> Result<Option<Outcome>, AllocError>
-        requires { IsTrue (aig_ops.is_valid self.old.unroller.aig self.old.unroller.goal) }
+        requires { IsGoal self.old.unroller.aig self.old.unroller.goal self.old.unroller.leaves }
         ensures decided { IfOk result (λ end. (m : MachineData) (q : Question) (width : ℕ) → IsMachine m → SidesFit m q.sides
             → IsClaim m q width self.old.unroller → IsDecided proof m number (name.now, q) into.old.items into.new.items end) }
         ensures grown { Grow into.old.items into.new.items }
     {
         claim_laws();
-        let shown = is_shown(&mut self.decider, &self.unroller, proof)?;
-        if shown {
-            return Ok(None);
-        }
-        match self
-            .decider
-            .decide(self.unroller.aig(), self.unroller.goal())?
-        {
-            Decision::Never(formula, log) => {
-                if !proof {
-                    return Ok(None);
-                }
+        match self.decider.decide(
+            self.unroller.aig(),
+            self.unroller.goal(),
+            self.unroller.leaves(),
+            proof,
+        )? {
+            Verdict::Never(None) => Ok(None),
+            Verdict::Never(Some(proof)) => {
                 into.push(Certificate {
                     stage: number,
                     claim: *name,
-                    formula,
-                    log,
+                    formula: proof.formula,
+                    log: proof.log,
                 })?;
                 Ok(None)
             }
-            Decision::Sometimes(bits) => {
-                let bits = leaf_bits(self.alloc, self.unroller.leaves(), bits.as_slice())?;
-                Ok(Some(Outcome::Refuted(*name, bits)))
-            }
+            Verdict::Sometimes(bits) => Ok(Some(Outcome::Refuted(*name, bits))),
         }
     }
-}
-
-/// Whether the claim that was built last needs no search: no proof of it is wanted, and it is seen at once that it holds.
-fn is_shown(decider: &mut Decider, unroller: &Unroller, proof: bool) -> Result<bool, AllocError>
-    requires { IsTrue (aig_ops.is_valid unroller.now.aig unroller.now.goal) }
-    ensures { IfOk result (λ shown. shown ≡ true → (proof ≡ false) × IsNeverOne unroller.now.aig unroller.now.goal) }
-{
-    if proof {
-        return Ok(false);
-    }
-    decider.shows_never(unroller.aig(), unroller.goal())
-}
-
-/// Leaves with their bits.
-fn leaf_bits(alloc: Global, leaves: &[Leaf], bits: &[bool]) -> Result<Seq<LeafBit>, AllocError>
-    ensures leaves { IfOk result (λ seq. length bits.now ≡ length leaves.now → map (λ (b : LeafBit). b.leaf) seq ≡ leaves.now) }
-    ensures bits { IfOk result (λ seq. length bits.now ≡ length leaves.now → map (λ (b : LeafBit). b.bit) seq ≡ bits.now) }
-{
-    let mut seq = Seq::new(alloc);
-    for (leaf, bit) in leaves.iter().zip(bits) {
-        seq.push(LeafBit {
-            leaf: *leaf,
-            bit: *bit,
-        })?;
-    }
-    Ok(seq)
 }

@@ -1,6 +1,6 @@
 //! The plan of a machine, in the making and whole.
 
-ghost use Rattle.std.specs.Prelude.{◌≡◌, IfOk, IfErr, ◌+◌, length, MatchResult, OnOk, true};
+ghost use Rattle.std.specs.Prelude.{◌≡◌, IfOk, IfErr, OnOk, true};
 ghost use Rattle.std.specs.Option.{option_copied};
 ghost use Rattle.cg_stage_list_laws.specs.Literals.{FitZeroCounts};
 ghost use Rattle.cg_plan_laws.specs.Cleared.{AllCleared, IsCleared};
@@ -9,7 +9,6 @@ ghost use Rattle.cg_plan_laws.specs.Reported.{IsPlan, PlanMayFail};
 ghost use Rattle.cg_plan_laws.specs.declared.settings.Settings.{Settings};
 ghost use Rattle.cg_plan.specs.Planning.{AreWritable, IsSafePlan, told};
 ghost use Rattle.cg_stage_list_laws.specs.Fit.{AllFit};
-ghost use Rattle.cg_netlist.specs.declared.fault.AddFault.TheVariants.{NoMemory};
 ghost use Rattle.cg_plan.specs.inner.Drafting.{IsDraft, Leads, MayStop, StayCleared, StillFit, all_parts, earlier_by, kept, round_list, unbegun};
 ghost use Rattle.cg_claim_reach.specs.Fanout.{Knows};
 ghost use Rattle.cg_stage_laws.specs.Stages.{Fits};
@@ -19,6 +18,7 @@ use cg_cell::library::Library;
 use cg_claim_reach::fanout::Fanout;
 use cg_hold::candidates::candidates;
 use cg_hold::progress::Progress;
+use cg_judge::trying::next_number;
 use cg_list::Seq;
 use cg_machine::machine::Machine;
 use cg_machine::stage::{Earlier, Stage, StageKind};
@@ -281,7 +281,7 @@ impl Draft {
         ensures clear { OnOk result (StayCleared rules.now.settings.now.width stage self.old.machine self.new.machine) }
     {
         let _netlist = self.machine.netlist();
-        let number = self.next_number()?;
+        let number = next_number(self.stages.len())?;
         let entry = Entry {
             number,
             stage: &stage,
@@ -296,19 +296,6 @@ impl Draft {
         )?;
         self.keep(stage, outcome)?;
         Ok(())
-    }
-
-    /// The number of the next stage, counted from 1.
-    fn next_number(&self) -> Result<u32, AddFault>
-        ensures { MatchResult result (λ number. number ≡ 1 + length self.now.stages) (λ fault. fault ≡ NoMemory) }
-    {
-        let Ok(count) = u32::try_from(self.stages.len()) else {
-            return Err(AddFault::NoMemory);
-        };
-        match count.checked_add(1) {
-            Some(number) => Ok(number),
-            None => Err(AddFault::NoMemory),
-        }
     }
 
     /// Tells a stage with its outcome behind the others.

@@ -40,44 +40,13 @@ use Rattle.cg_plan_laws.specs.Trying.{unless_passed}
 use Rattle.cg_plan_laws.specs.declared.outcome.Outcome.{Outcome}
 use Rattle.cg_plan_laws.specs.declared.outcome.Outcome.TheVariants.{Inserted, NeverIdle, NoCell, Refuted, Small, Wide}
 use Rattle.cg_plan_laws.specs.declared.settings.Settings.{Settings}
-use Rattle.cg_stage_laws.proofs.CellsThere.{first_there}
+use Rattle.cg_stage_laws.proofs.Missing.{IsFirstMissing, first_missing}
 use Rattle.cg_stage_laws.specs.Cells.{HasCell}
 use Rattle.cg_stage_laws.specs.Effects.{limit_by}
 use Rattle.cg_stage_laws.specs.Needs.{missing, needs}
 use Rattle.cg_stage_laws.specs.Stages.{Fits, IsTarget, first_literal}
 use Rattle.cg_stage_list_laws.proofs.Among.{Among, among_cons, among_none}
 use Rattle.cg_stage_list_laws.specs.HoldList.{is_large}
-
--- a library with a cell of a kind has a first one
-no_cell : (library : List CellData) (kind : FitKind) → is_some (first_fit kind library) ≡ false → HasCell library kind → ⊥
-no_cell library kind none has =
-    let place : ℕ = position_or_len (is_fit kind) library in
-    let within : place < length library = slice_get_within library place has.0 (sym (find_at (is_fit kind) library) ∙ has.1) in
-    both_ways true (sym (ap (λ b. is_some (cond b (Some place) None)) (lt-ltb place (length library) within)) ∙ none) refl
-
--- the first kind of which a library has no cell
-record IsFirstMissing (library : List CellData) (kinds : List FitKind) (kind : FitKind) : Type 0 where
-  place : ℕ
-  at : slice_get kinds place ≡ Some kind
-  before : (k : ℕ) (other : FitKind) → k < place → slice_get kinds k ≡ Some other → HasCell library other
-  none : HasCell library kind → ⊥
-
-first_missing : (library : List CellData) (kinds : List FitKind) (kind : FitKind) → missing library kinds ≡ Some kind → IsFirstMissing library kinds kind
-first_missing library [] kind h = absurd (none-some kind h)
-first_missing library (first ∷ kinds) kind h = go (is_some (first_fit first library)) refl h (first_missing library kinds kind)
-  where
-    go : (b : Bool) → is_some (first_fit first library) ≡ b → cond (not b) (Some first) (missing library kinds) ≡ Some kind
-        → (missing library kinds ≡ Some kind → IsFirstMissing library kinds kind) → IsFirstMissing library (first ∷ kinds) kind
-    go false is k rest =
-        let same : first ≡ kind = same_Some first kind k in
-        record { place = 0; at = k; before = λ j other low at. absurd (omega (arith, low)); none = subst (λ x. HasCell library x → ⊥) same (no_cell library first is) }
-    go true is k rest =
-        let r : IsFirstMissing library kinds kind = rest k in
-        record { place = suc r.place; at = r.at; before = earlier r; none = r.none }
-      where
-        earlier : (r : IsFirstMissing library kinds kind) (j : ℕ) (other : FitKind) → j < suc r.place → slice_get (first ∷ kinds) j ≡ Some other → HasCell library other
-        earlier r zero other low at = subst (HasCell library) (same_Some first other at) (first_there library first [] (ap (λ b. cond (not b) (Some first) None) is)).0
-        earlier r (suc j) other low at = r.before j other (omega (arith, low)) at
 
 -- the k-th output is the target of its name
 outputs_placed : (ys : List ℕ) (k : ℕ) (t : ClaimName × Target) → Among t (output_targets k ys) → (j : ℕ) × (y : ℕ) × (slice_get ys j ≡ Some y) × ((Output (k + j), Shown y) ≡ t)

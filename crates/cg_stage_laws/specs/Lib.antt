@@ -4,3 +4,4 @@ pub mod Cells
 pub mod Joined
 pub mod Effects
 pub mod Laws
+pub mod Appends

@@ -5,13 +5,7 @@ use Rattle.cg_netlist.specs.declared.fault.AddFault.{AddFault}
 use Rattle.cg_hint_laws.specs.Answers.{MayFail}
 use Rattle.cg_hint_laws.specs.Effects.{AddedNets}
 use Rattle.cg_machine.specs.Added.{Added}
-use Rattle.cg_machine.specs.Extends.{Extends}
-use Rattle.cg_machine.specs.Machine.{IsMachine, IsNet, MachineData}
-
--- a machine that has all that m has
-pub record Keeps (m n : MachineData) : Type 0 where
-  pub good : IsMachine n
-  pub extends : Extends m n
+use Rattle.cg_machine.specs.Machine.{IsNet, MachineData}
 
 -- what adding a net was to answer: the net, in the machine n that has it then, or a fault
 abbrev pub AddsAs : MachineData → Result Added AddFault → Result ℕ AddFault → Type 0

@@ -1,9 +1,9 @@
 -- The size of a claim.
-use Rattle.std.specs.Prelude.{◌≡◌, ℕ, Bool, true, Option, None, Some}
+use Rattle.std.specs.Prelude.{◌≡◌, ℕ, Bool, true, false, Option, None, Some}
 use Rattle.cg_unroll.specs.declared.claim.ClaimFault.{ClaimFault}
 use Rattle.cg_unroll.specs.declared.claim.ClaimFault.TheVariants.{Limit as NodesLimit, NoMemory, Wide as TooManyLeaves}
-use Rattle.cg_hints.specs.declared.size.Size.{Size}
-use Rattle.cg_hints.specs.declared.size.Size.TheVariants.{Fits, Large, Wide}
+use Rattle.cg_hints.specs.declared.claims.Size.{Size}
+use Rattle.cg_hints.specs.declared.claims.Size.TheVariants.{Fits, Large, Wide}
 
 -- how many leaves there are, where these are too many
 abbrev pub too_many : Size → Option ℕ
@@ -11,11 +11,11 @@ too_many Fits = None
 too_many (Wide leaves) = Some leaves
 too_many Large = None
 
--- whether it is large, or one before it was
-abbrev pub or_large : Size → Bool → Bool
-or_large Fits before = before
-or_large (Wide leaves) before = before
-or_large Large before = true
+-- whether there are too many nodes, but not too many leaves
+abbrev pub is_large : Size → Bool
+is_large Fits = false
+is_large (Wide leaves) = false
+is_large Large = true
 
 -- the size of a claim that is refused so; want of memory tells none
 abbrev pub SizedAs : ClaimFault → Size → Type 0

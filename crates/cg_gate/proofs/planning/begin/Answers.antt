@@ -10,7 +10,8 @@ use Rattle.cg_gate.specs.Request.{RequestData, begun_of, gating_of, hints_limit,
 use Rattle.cg_gate.specs.declared.planning.Begun.{Begun}
 use Rattle.cg_gate_laws.proofs.BegunSafe.{all_fit}
 use Rattle.cg_gate_laws.specs.Begun.{hinted_by, renamed}
-use Rattle.cg_hint_laws.specs.Answers.{AreTried, MayFail, Reported}
+use Rattle.cg_hint_laws.specs.Answers.{MayFail, Reported}
+use Rattle.cg_hints.specs.Applying.{AreApplied}
 use Rattle.cg_hint_laws.specs.Laws.{AllFit}
 use Rattle.cg_hint_laws.specs.OfNetlist.{IsOf}
 use Rattle.cg_hint_laws.specs.Trying.{hinted}
@@ -37,18 +38,18 @@ told_of begun = record { machine = begun.machine; outcomes = begun.hints.outcome
 
 module _ (request : RequestData) (netlist : Circuit) (m : MachineData) (hs : List Hint) (are : hs ≡ map (renamed netlist) (hints_of request)) (is : m ≡ lifted netlist request.prefix) where
   -- they are tried on the netlist's machine
-  tried_so : (begun : Begun) → AreTried request.library request.settings.width m hs (told_of begun)
-      → AreTried request.library request.settings.width (lifted netlist request.prefix) (map (renamed netlist) (hints_of request)) (told_of begun)
+  tried_so : (begun : Begun) → AreApplied request.library request.settings.width request.settings.proof m hs (told_of begun)
+      → AreApplied request.library request.settings.width request.settings.proof (lifted netlist request.prefix) (map (renamed netlist) (hints_of request)) (told_of begun)
   tried_so begun tried =
-      subst (λ (l : List Hint). AreTried request.library request.settings.width (lifted netlist request.prefix) l (told_of begun)) are
-      (subst (λ (k : MachineData). AreTried request.library request.settings.width k hs (told_of begun)) is tried)
+      subst (λ (l : List Hint). AreApplied request.library request.settings.width request.settings.proof (lifted netlist request.prefix) l (told_of begun)) are
+      (subst (λ (k : MachineData). AreApplied request.library request.settings.width request.settings.proof k hs (told_of begun)) is tried)
 
-  left_so : (begun : Begun) → AreTried request.library request.settings.width m hs (told_of begun) → begun.machine ≡ begun_of request netlist
+  left_so : (begun : Begun) → AreApplied request.library request.settings.width request.settings.proof m hs (told_of begun) → begun.machine ≡ begun_of request netlist
   left_so begun tried = told_left request netlist (told_of begun) (tried_so begun tried)
 
-  hints_so : (begun : Begun) → AreTried request.library request.settings.width m hs (told_of begun) → AreHintsTried (gating_of request netlist) netlist begun.hints
+  hints_so : (begun : Begun) → AreApplied request.library request.settings.width request.settings.proof m hs (told_of begun) → AreHintsTried (gating_of request netlist) netlist begun.hints
   hints_so begun tried =
-      subst (λ (k : MachineData). AreTried request.library request.settings.width (lifted netlist request.prefix) (map (renamed netlist) (hints_of request)) (record { machine = k; outcomes = begun.hints.outcomes; certificates = begun.hints.certificates }))
+      subst (λ (k : MachineData). AreApplied request.library request.settings.width request.settings.proof (lifted netlist request.prefix) (map (renamed netlist) (hints_of request)) (record { machine = k; outcomes = begun.hints.outcomes; certificates = begun.hints.certificates }))
       (left_so begun tried) (tried_so begun tried)
 
   stops_so : (fault : AddFault) → MayFail (hinted request.library request.settings.width m hs) fault → PlanMayFail (hints_limit (gating_of request netlist) netlist) fault
@@ -64,7 +65,7 @@ returns-clause-machine c =
     let m = c.in-Ok-lift.made.machine in
     let hs = c.deref.result.now in
     let are : hs ≡ map (renamed netlist) (hints_of request) = c.deref.ensures.value ∙ (c.in-Ok.ensures ∙ ap (λ (r : RequestData). map (renamed netlist) (hints_of r)) c.request.view_is) in
-    if_ok (λ (begun : Begun). AreTried request.library request.settings.width m hs (told_of begun)) (λ (begun : Begun). begun.machine ≡ begun_of request netlist) c.try_hints.result
+    if_ok (λ (begun : Begun). AreApplied request.library request.settings.width request.settings.proof m hs (told_of begun)) (λ (begun : Begun). begun.machine ≡ begun_of request netlist) c.try_hints.result
     (left_so request netlist m hs are c.in-Ok-lift.ensures.machine) c.try_hints.ensures.tried
 
 pub returns-clause-tried : goal.returns-clause-tried
@@ -74,7 +75,7 @@ returns-clause-tried c =
     let m = c.in-Ok-lift.made.machine in
     let hs = c.deref.result.now in
     let are : hs ≡ map (renamed netlist) (hints_of request) = c.deref.ensures.value ∙ (c.in-Ok.ensures ∙ ap (λ (r : RequestData). map (renamed netlist) (hints_of r)) c.request.view_is) in
-    if_ok (λ (begun : Begun). AreTried request.library request.settings.width m hs (told_of begun)) (λ (begun : Begun). AreHintsTried (gating_of request netlist) netlist begun.hints) c.try_hints.result
+    if_ok (λ (begun : Begun). AreApplied request.library request.settings.width request.settings.proof m hs (told_of begun)) (λ (begun : Begun). AreHintsTried (gating_of request netlist) netlist begun.hints) c.try_hints.result
     (hints_so request netlist m hs are c.in-Ok-lift.ensures.machine) c.try_hints.ensures.tried
 
 pub returns-clause-kept : goal.returns-clause-kept

@@ -8,7 +8,7 @@ use Rattle.cg_gate.specs.Gating.{where_asked}
 use Rattle.cg_gate.specs.Request.{RequestData, gating_of}
 use Rattle.cg_gate.specs.declared.planning.Gated.{Gated}
 use Rattle.cg_gate.specs.declared.proving.Proved.{Proved}
-use Rattle.cg_hint_laws.specs.Answers.{turn_claims}
+use Rattle.cg_hints.specs.Applying.{kept_claims}
 use Rattle.cg_insert.specs.Insert.{CanInsert}
 use Rattle.cg_insert.specs.Inserting.{insertion}
 use Rattle.cg_limit.specs.Answers.{OrNoMemory}
@@ -23,7 +23,7 @@ use Rattle.std.proofs.Common.{◌≡◌, ◌∙◌, Err, Ok, Some, ap, refl, sym
 pub prove-requires-clause-hints : goal.prove-requires-clause-hints
 prove-requires-clause-hints g c =
     let tried = c.in_ok-planned.ensures.tried in
-    hints_writable (turn_claims 1 tried.done.turns) c.in_ok-planned.planned.hints.certificates tried.certificates
+    hints_writable (kept_claims c.args.request.now.settings.proof tried.done.turns) c.in_ok-planned.planned.hints.certificates tried.certificates
 
 pub write_plan-requires : goal.write_plan-requires
 write_plan-requires g c =

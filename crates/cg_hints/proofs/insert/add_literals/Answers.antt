@@ -1,9 +1,10 @@
-use Rattle.std.proofs.Common.{◌≡◌, ℕ, ◌∷◌, [], ◌++◌, List, Some, ◌+◌, drop, slice_get, length, refl, sym, ◌∙◌, subst, arith, length-append}
+use Rattle.std.proofs.Common.{◌≡◌, ℕ, ◌∷◌, [], ◌++◌, List, Some, ◌+◌, drop, slice_get, length, refl, sym, ◌∙◌, ap, subst, arith, length-append}
 use Rattle.std.specs.List.{AllByRecursion}
 use Rattle.std.proofs.lemmas.Option.{slice_get_read}
 use Rattle.cg_machine.specs.Machine.{IsNet}
 use Rattle.cg_hint_laws.specs.Effects.{for_each, literal_answer}
-use Rattle.cg_hints.proofs.Adding.{all_kept, all_push, behind_nets, each_on, keeps_then}
+use Rattle.cg_stage_laws.proofs.Appended.{keeps_self, keeps_then}
+use Rattle.cg_hints.proofs.Adding.{all_kept, all_push, behind_nets, behind_no_nets, each_on}
 use Rattle.cg_hints.proofs.insert.add_literals.Goals as goal
 
 pub returns-in_err-net-clause-keeps : goal.returns-in_err-net-clause-keeps
@@ -11,6 +12,17 @@ returns-in_err-net-clause-keeps c = keeps_then c.args.machine.now c.loop-literal
 
 pub returns-in_err-push-clause-keeps : goal.returns-in_err-push-clause-keeps
 returns-in_err-push-clause-keeps c = keeps_then c.args.machine.now c.loop-literal.machine c.add_literal.new.machine c.loop-literal.invariant.keeps c.in_ok-net.ensures.keeps
+
+pub loop-literal-init : goal.loop-literal-init
+loop-literal-init c =
+    let m = c.args.machine.now in
+    let none = c.new-nets.ensures in
+    record {
+      left = behind_no_nets c.new-nets.result (for_each literal_answer m c.args.term.now) none;
+      keeps = keeps_self m m c.netlist-netlist.ensures.machine refl;
+      long = ap length none;
+      are_nets = subst (AllByRecursion (IsNet m)) (sym none) tt;
+    }
 
 pub loop-literal-preserved : goal.loop-literal-preserved
 loop-literal-preserved c =

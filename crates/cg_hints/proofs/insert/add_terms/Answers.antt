@@ -7,7 +7,8 @@ use Rattle.cg_hint_laws.specs.Effects.{AddedNets, for_each, term_answer}
 use Rattle.cg_netlist.specs.declared.fault.AddFault.{AddFault}
 use Rattle.cg_hint_laws.specs.Answers.{MayFail}
 use Rattle.cg_hints.specs.inner.Adding.{AddsNets}
-use Rattle.cg_hints.proofs.Adding.{all_kept, all_push, behind_nets, each_fault, each_on, keeps_then}
+use Rattle.cg_stage_laws.proofs.Appended.{keeps_self, keeps_then}
+use Rattle.cg_hints.proofs.Adding.{all_kept, all_push, behind_nets, behind_no_nets, each_fault, each_on}
 use Rattle.cg_hints.proofs.insert.add_terms.Goals as goal
 
 pub returns-in_err-net-clause-added : goal.returns-in_err-net-clause-added
@@ -28,6 +29,17 @@ returns-in_err-net-clause-keeps c = keeps_then c.args.machine.now c.loop-k.machi
 
 pub returns-in_err-push-clause-keeps : goal.returns-in_err-push-clause-keeps
 returns-in_err-push-clause-keeps c = keeps_then c.args.machine.now c.loop-k.machine c.add_term.new.machine c.loop-k.invariant.keeps c.in_ok-net.ensures.keeps
+
+pub loop-k-init : goal.loop-k-init
+loop-k-init c =
+    let m = c.args.machine.now in
+    let none = c.new-nets.ensures in
+    record {
+      left = behind_no_nets c.new-nets.result (for_each term_answer m c.args.terms.now) none;
+      keeps = keeps_self m m c.netlist-netlist.ensures.machine refl;
+      long = ap length none;
+      are_nets = subst (AllByRecursion (IsNet m)) (sym none) tt;
+    }
 
 pub loop-k-preserved : goal.loop-k-preserved
 loop-k-preserved c =

@@ -2,7 +2,7 @@ use Rattle.std.proofs.Common.{◌≡◌, drop, length}
 use Rattle.std.specs.List.{AllByRecursion}
 use Rattle.cg_machine.specs.Machine.{IsNet}
 use Rattle.cg_hint_laws.specs.Effects.{for_each, term_answer}
-use Rattle.cg_hints.specs.inner.Adding.{Keeps}
+use Rattle.cg_stage_laws.specs.Appends.{Keeps}
 use Rattle.cg_hints.proofs.Adding.{behind_nets}
 use Rattle.cg_hints.proofs.insert.add_terms.Given as goal
 

@@ -1,9 +1,10 @@
-use Rattle.std.proofs.Common.{◌≡◌, ℕ, suc, ◌+◌, ◌-◌, Result, Err, rules, sym, ◌∙◌, ap, subst, arith}
+use Rattle.std.proofs.Common.{◌≡◌, ℕ, suc, ◌+◌, ◌-◌, Result, Err, rules, refl, sym, ◌∙◌, ap, subst, arith}
 use Rattle.cg_machine.specs.Added.{Added, delay_answer}
 use Rattle.cg_netlist.specs.declared.fault.AddFault.{AddFault}
 use Rattle.cg_hint_laws.specs.Effects.{delayed_by}
 use Rattle.cg_hints.specs.inner.Adding.{AddsAs}
-use Rattle.cg_hints.proofs.Adding.{delay_on, keeps_then, passes_same, passes_then, with_net}
+use Rattle.cg_stage_laws.proofs.Appended.{keeps_self, keeps_then}
+use Rattle.cg_hints.proofs.Adding.{delay_on, passes_same, passes_then, with_net}
 use Rattle.cg_hints.proofs.insert.delay.Goals as goal
 
 pub returns-in_err-last-clause-added : goal.returns-in_err-last-clause-added
@@ -21,6 +22,17 @@ returns-in_err-last-clause-added c =
 
 pub returns-in_err-last-clause-keeps : goal.returns-in_err-last-clause-keeps
 returns-in_err-last-clause-keeps c = keeps_then c.args.machine.now c.loop.machine c.add_delay.new.machine c.loop.invariant.keeps c.in_err-last.ensures.keeps
+
+pub loop-init : goal.loop-init
+loop-init c =
+    let m = c.args.machine.now in
+    let k = c.args.cycles in
+    let e : k - 0 ≡ k = omega arith in
+    record {
+      left = ap (λ j. delayed_by j (with_net m c.args.net)) e;
+      keeps = keeps_self m m c.netlist-netlist.ensures.machine refl;
+      is_net = c.requires.net;
+    }
 
 pub loop-preserved : goal.loop-preserved
 loop-preserved c =

@@ -1,7 +1,7 @@
 use Rattle.std.proofs.Common.{◌≡◌, ◌-◌}
 use Rattle.cg_machine.specs.Machine.{IsNet}
 use Rattle.cg_hint_laws.specs.Effects.{delayed_by}
-use Rattle.cg_hints.specs.inner.Adding.{Keeps}
+use Rattle.cg_stage_laws.specs.Appends.{Keeps}
 use Rattle.cg_hints.proofs.Adding.{with_net}
 use Rattle.cg_hints.proofs.insert.delay.Given as goal
 

@@ -1,12 +1,13 @@
 use Rattle.std.proofs.Common.{◌≡◌, ◌<◌, List, Result, Err, OnErr, is_some, rules, sym, ◌∙◌, ap, subst, arith}
 use Rattle.std.specs.List.{All, AllByRecursion}
 use Rattle.cg_machine.specs.Claims.{Literal}
-use Rattle.cg_machine.specs.Extends.{Extends}
+use Rattle.cg_stage_laws.specs.Appends.{Keeps}
 use Rattle.cg_machine.specs.Machine.{IsNet}
 use Rattle.cg_net.proofs.Members.{All-from_members}
 use Rattle.cg_netlist.specs.declared.fault.AddFault.{AddFault}
 use Rattle.cg_hint_laws.proofs.HintSafe.{clocked}
-use Rattle.cg_hints.proofs.Adding.{keeps_then, literals_there}
+use Rattle.cg_stage_laws.proofs.Appended.{keeps_then}
+use Rattle.cg_hints.proofs.Adding.{literals_there}
 use Rattle.cg_hints.proofs.insert.insert.Goals as goal
 
 pub add_condition-requires-clause-nets : goal.add_condition-requires-clause-nets
@@ -25,7 +26,7 @@ returns-in_err-last-clause-kept c =
     let n = c.delay.new.machine in
     let fault = c.in_err-last.field-0.0 in
     let same : c.from_residual-in_err-last.result ≡ Err fault = search rules in
-    subst (λ (r : Result (Unit {0}) AddFault). OnErr r (Extends m n)) (sym same) (keeps_then m c.add_condition.new.machine n c.in_ok-condition.ensures.keeps c.in_err-last.ensures.keeps).extends
+    subst (λ (r : Result (Unit {0}) AddFault). OnErr r (Keeps m n)) (sym same) (keeps_then m c.add_condition.new.machine n c.in_ok-condition.ensures.keeps c.in_err-last.ensures.keeps)
 
 pub give_enable-requires-clause-registers : goal.give_enable-requires-clause-registers
 give_enable-requires-clause-registers c =

@@ -6,7 +6,8 @@ use Rattle.cg_netlist.specs.declared.fault.AddFault.{AddFault}
 use Rattle.cg_machine.proofs.Extended.{net_kept}
 use Rattle.cg_hint_laws.specs.Effects.{joined_with}
 use Rattle.cg_hints.specs.inner.Adding.{AddsAs}
-use Rattle.cg_hints.proofs.Adding.{all_place, drop_at, gate_fits, join_on, keeps_then, passes_same, passes_then, with_net}
+use Rattle.cg_stage_laws.proofs.Appended.{keeps_self, keeps_then}
+use Rattle.cg_hints.proofs.Adding.{all_place, drop_at, gate_fits, join_on, passes_same, passes_then, with_net}
 use Rattle.cg_hints.proofs.insert.join.Goals as goal
 
 pub add_gate-requires : goal.add_gate-requires
@@ -34,6 +35,9 @@ returns-in_err-net-clause-added c =
 
 pub returns-in_err-net-clause-keeps : goal.returns-in_err-net-clause-keeps
 returns-in_err-net-clause-keeps c = keeps_then c.args.machine.now c.loop-more.machine c.add_gate.new.machine c.loop-more.invariant.keeps c.in_err-net.ensures.keeps
+
+pub loop-more-init : goal.loop-more-init
+loop-more-init c = record { left = refl; keeps = keeps_self c.args.machine.now c.args.machine.now c.netlist-netlist.ensures.machine refl; is_net = c.requires.first }
 
 pub loop-more-preserved : goal.loop-more-preserved
 loop-more-preserved c =

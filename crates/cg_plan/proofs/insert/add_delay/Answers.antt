@@ -1,4 +1,5 @@
-use Rattle.cg_plan.proofs.Adding.{delay_err, delay_keeps, delay_ok}
+use Rattle.cg_stage_laws.proofs.Appended.{delay_keeps}
+use Rattle.cg_plan.proofs.Adding.{delay_err, delay_ok}
 use Rattle.cg_plan.proofs.insert.add_delay.Goals as goal
 
 pub returns : goal.returns

@@ -2,7 +2,8 @@ use Rattle.std.proofs.Common.{Option, IfErr, sym, ◌∙◌, ap, subst}
 use Rattle.cg_limit.specs.declared.Limit.{Limit}
 use Rattle.cg_stage_laws.specs.Effects.{own_limit}
 use Rattle.cg_plan.specs.inner.Inserting.{MayPass}
-use Rattle.cg_plan.proofs.Adding.{delayed_limit_on, keeps_then, nets_of}
+use Rattle.cg_stage_laws.proofs.Appended.{keeps_then}
+use Rattle.cg_plan.proofs.Adding.{delayed_limit_on, nets_of}
 use Rattle.cg_plan.proofs.insert.add_delayed.Goals as goal
 
 pub returns-in-Some-clause-fault : goal.returns-in-Some-clause-fault

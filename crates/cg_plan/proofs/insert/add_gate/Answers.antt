@@ -1,4 +1,5 @@
-use Rattle.cg_plan.proofs.Adding.{gate_err, gate_keeps, gate_ok}
+use Rattle.cg_stage_laws.proofs.Appended.{gate_keeps}
+use Rattle.cg_plan.proofs.Adding.{gate_err, gate_ok}
 use Rattle.cg_plan.proofs.insert.add_gate.Goals as goal
 
 pub returns : goal.returns

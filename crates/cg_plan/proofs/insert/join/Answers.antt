@@ -8,7 +8,8 @@ use Rattle.cg_netlist.specs.declared.fault.AddFault.{AddFault}
 use Rattle.cg_plan.specs.inner.Inserting.{MayPass}
 use Rattle.cg_stage_laws.specs.Joined.{join, join_limit}
 use Rattle.cg_machine.proofs.Extended.{net_kept}
-use Rattle.cg_plan.proofs.Adding.{gate_fits, join_on, keeps_self, keeps_then, limit_on, net_among, nets_at, nets_of, passes_first}
+use Rattle.cg_stage_laws.proofs.Appended.{keeps_self, keeps_then}
+use Rattle.cg_plan.proofs.Adding.{gate_fits, join_on, limit_on, net_among, nets_at, nets_of, passes_first}
 use Rattle.cg_plan.proofs.Adding.{passes_same}
 use Rattle.cg_plan.proofs.insert.join.Goals as goal
 

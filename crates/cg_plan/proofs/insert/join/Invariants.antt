@@ -1,7 +1,7 @@
 use Rattle.std.proofs.Common.{◌≡◌, drop}
 use Rattle.cg_machine.specs.Machine.{IsNet}
 use Rattle.cg_stage_laws.specs.Joined.{join, join_limit}
-use Rattle.cg_plan.specs.Trial.{Keeps}
+use Rattle.cg_stage_laws.specs.Appends.{Keeps}
 use Rattle.cg_plan.proofs.Adding.{nets_of}
 use Rattle.cg_plan.proofs.insert.join.Given as goal
 

@@ -11,7 +11,7 @@ use Rattle.cg_plan.specs.inner.Deciding.{Settles}
 use Rattle.cg_plan.specs.inner.Judging.{IsJudged, IsSettled}
 use Rattle.cg_plan.specs.inner.Measuring.{IsBuilt, wide_end}
 use Rattle.cg_plan.specs.inner.Naming.{NameFits, claims_named, named, question_of}
-use Rattle.cg_plan.proofs.Deciding.{grow_on}
+use Rattle.cg_plan.proofs.Deciding.{goal_is, grow_on}
 use Rattle.cg_plan.proofs.Judging.{settled_next, wide_ends}
 use Rattle.cg_plan.proofs.Measuring.{measured_fault, measured_on}
 use Rattle.cg_plan.proofs.Naming.{claims_at, claims_to, sides_fit}
@@ -53,6 +53,15 @@ returns-in-Some-clause-judged c =
 
 pub returns-in_err-settled-clause-grown : goal.returns-in_err-settled-clause-grown
 returns-in_err-settled-clause-grown c = grow_on c.args.into.now.items c.loop-name.into.items c.settle.new.into.items c.loop-name.invariant.grown c.settle.ensures.grown
+
+pub settle-requires : goal.settle-requires
+settle-requires c =
+    let m = c.args.claims.now.machine.now in
+    let s = c.args.claims.now.stage.now in
+    let w = c.args.claims.now.width in
+    let q = question_of m s c.name-item.result in
+    let built : IsClaim m q w c.measure.new.unroller = subst (IsBuilt m q w c.measure.new.unroller) c.in_default.is c.in_ok-end.ensures.built in
+    goal_is m q w c.measure.new.unroller built
 
 pub loop-name-preserved : goal.loop-name-preserved
 loop-name-preserved c =

@@ -1,6 +1,7 @@
 use Rattle.std.proofs.Common.{refl}
-use Rattle.cg_plan.proofs.Adding.{keeps_self, on_err}
-use Rattle.cg_plan.specs.Trial.{Keeps}
+use Rattle.cg_stage_laws.proofs.Appended.{keeps_self}
+use Rattle.cg_plan.proofs.Adding.{on_err}
+use Rattle.cg_stage_laws.specs.Appends.{Keeps}
 use Rattle.cg_plan.proofs.judge.Judge.try_claims.Goals as goal
 
 pub returns-in_err-end-clause-kept : goal.returns-in_err-end-clause-kept

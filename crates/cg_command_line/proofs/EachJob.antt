@@ -4,6 +4,7 @@ use Rattle.std.specs.Prelude.{◌||◌, if◌then◌else◌, codes, is_some, unw
 use Rattle.std.specs.Option.{option_and_then, option_to_list}
 use Rattle.std.specs.Str.{bytes_eq}
 use Rattle.clap.specs.Words.{Kinds, Text, all_of, fault_of, first_of, matches_of}
+use Rattle.cg_limit.specs.declared.TheConstants.{LEAST_DEMO_SIZE, MOST_DEMO_SIZE}
 use Rattle.cg_run.specs.Names.{Files}
 use Rattle.cg_run.specs.declared.role.Role.TheVariants as roles
 use Rattle.cg_source.specs.declared.stimulus.StimulusForm.{StimulusForm}
@@ -87,7 +88,7 @@ module _ (P : JobWords → Type 0) (watchers : List Text)
   each_sized None values = tt
 
   each_demo : (files : List Text) (values : Values) → IfSome (demo_job files values) P
-  each_demo (size ∷ []) values = each_sized (number_in 1 4096 size) values
+  each_demo (size ∷ []) values = each_sized (number_in LEAST_DEMO_SIZE MOST_DEMO_SIZE size) values
   each_demo [] values = tt
   each_demo (size ∷ other ∷ files) values = tt
 

@@ -3,6 +3,7 @@ use Rattle.std.specs.Prelude.{◌≡◌, if◌then◌else◌, ◌||◌, List, []
 use Rattle.std.specs.Option.{option_and_then, option_map, option_to_list}
 use Rattle.std.specs.Str.{bytes_eq}
 use Rattle.clap.specs.Words.{Kinds, Row, Text, all_of, fault_of, first_of, matches_of}
+use Rattle.cg_limit.specs.declared.TheConstants.{LEAST_DEMO_SIZE, MOST_DEMO_SIZE}
 use Rattle.cg_run.specs.Names.{File, Files, file_of, files_of}
 use Rattle.cg_run.specs.declared.role.Role.{Role}
 use Rattle.cg_run.specs.declared.role.Role.TheVariants as roles
@@ -90,7 +91,7 @@ lrat_job files values = None
 abbrev pub demo_job : List Text → Values → Option JobWords
 demo_job (size ∷ []) values =
     option_and_then (λ size. job_of_options (Demo size) [] (if has_options values then None else Some no_options))
-    (number_in 1 4096 size)
+    (number_in LEAST_DEMO_SIZE MOST_DEMO_SIZE size)
 demo_job files values = None
 
 -- the job that a mode's word, the files and the options ask for, with the names of the watchers that there are

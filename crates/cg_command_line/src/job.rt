@@ -16,6 +16,7 @@ use crate::options::{
     sim_options, stimulus,
 };
 use crate::values::{OptionWords, given};
+use cg_limit::{LEAST_DEMO_SIZE, MOST_DEMO_SIZE};
 use cg_run::{NamedFile, Names, Role};
 use cg_source::stimulus::StimulusForm;
 use clap::ArgMatches;
@@ -365,7 +366,7 @@ fn demo_job<'a>(
     let [size] = files else {
         return Ok(None);
     };
-    let Some(size) = number_in(1, 4096, size) else {
+    let Some(size) = number_in(LEAST_DEMO_SIZE, MOST_DEMO_SIZE, size) else {
         return Ok(None);
     };
     if has_options(given) {

@@ -14,17 +14,14 @@ ghost use Rattle.cg_limit.specs.declared.TheConstants.{MOST_ROWS};
 use crate::values::OptionWords;
 use cg_cell::name::Name;
 use cg_limit::{
-    DEFAULT_MIN, DEFAULT_ROUNDS, DEFAULT_WIDTH, LEAST_MIN, LEAST_ROUNDS, LEAST_WIDTH, MOST_MIN,
-    MOST_ROUNDS, MOST_ROWS, MOST_WIDTH,
+    DEFAULT_MIN, DEFAULT_PREFIX, DEFAULT_ROUNDS, DEFAULT_WIDTH, LEAST_MIN, LEAST_ROUNDS,
+    LEAST_WIDTH, MOST_MIN, MOST_ROUNDS, MOST_ROWS, MOST_WIDTH,
 };
 use cg_plan_laws::settings::Settings;
 use cg_source::netlist::{NetlistForm, NetlistOptions};
 use cg_source::stimulus::StimulusForm;
 use cg_text::number::{Number, read_number};
 use std::alloc::{AllocError, Global};
-
-/// What the names of added nets begin with where the words do not say it.
-pub const DEFAULT_PREFIX: &str = "cg_";
 
 /// Which of the files that need not be given are given.
 #[derive(Clone, Copy, Debug, PartialEq, Eq)]

@@ -3,10 +3,8 @@
 //! No answer rests on them: bits that are found are tried before they are answered.
 
 use cg_aig::{Aig, AigLit};
+use cg_xorshift::Random;
 use std::alloc::{AllocError, Global};
-
-// Where the pseudo-random numbers begin: any number but 0 (xorshift, Marsaglia 2003).
-const SEED: u64 = 0x9e37_79b9_7f4a_7c15;
 
 /// The values of the nodes of a list under 64 choices of leaf bits at a time: bit k of a word is the value under
 /// choice k.
@@ -14,7 +12,7 @@ const SEED: u64 = 0x9e37_79b9_7f4a_7c15;
 pub struct Patterns {
     alloc: Global,
     words: Vec<u64>,
-    state: u64,
+    random: Random,
 }
 
 impl Patterns {
@@ -23,20 +21,13 @@ impl Patterns {
         Patterns {
             alloc,
             words: Vec::new(alloc),
-            state: SEED,
+            random: Random::new(),
         }
     }
 
     /// Begins with the same numbers again, so that an answer depends on the list and the goal alone.
     pub fn restart(&mut self) {
-        self.state = SEED;
-    }
-
-    fn next(&mut self) -> u64 {
-        self.state ^= self.state << 13;
-        self.state ^= self.state >> 7;
-        self.state ^= self.state << 17;
-        self.state
+        self.random = Random::new();
     }
 
     fn word(&self, lit: AigLit) -> u64 {
@@ -53,7 +44,7 @@ impl Patterns {
         self.words.clear();
         self.words.push(0)?;
         for _ in 0..aig.leaves() {
-            let word = self.next();
+            let word = self.random.next();
             self.words.push(word)?;
         }
         for k in 0..aig.ands() {

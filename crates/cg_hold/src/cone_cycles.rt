@@ -17,7 +17,6 @@ ghost use Rattle.cg_netlist.specs.Netlist.{widest_of};
 
 use crate::moves::next_word;
 use crate::nets::{lay_cell, start_word};
-use crate::random::Random;
 use crate::search::Look;
 use crate::words::zeros;
 use cg_claim::leaf::{Leaf, LeafSource};
@@ -25,6 +24,7 @@ use cg_machine::machine::Machine;
 use cg_machine::stage::NetLit;
 use cg_net::id::{NetId, RegId};
 use cg_word::words::has_one;
+use cg_xorshift::Random;
 use std::alloc::{AllocError, Global};
 
 /// 64 cycles of one register, each in a lane of the words, in buffers that are kept.

@@ -13,13 +13,13 @@ ghost use Rattle.cg_netlist.specs.Moment.{bit};
 
 use crate::moves::move_words;
 use crate::nets::{lay_cells, start_words};
-use crate::random::Random;
 use crate::words::zeros;
 use cg_list::Seq;
 use cg_machine::machine::Machine;
 use cg_machine::stage::NetLit;
 use cg_net::id::RegId;
 use cg_word::words::has_one;
+use cg_xorshift::Random;
 use std::alloc::{AllocError, Global};
 
 /// 64 cycles of a machine, each in a lane of these words.

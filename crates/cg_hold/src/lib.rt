@@ -5,7 +5,6 @@
 //!
 //! The modules:
 //!
-//! - `random`: pseudo-random words.
 //! - `words`: words of 64 bits, each bit that of a cycle of its own.
 //! - `nets`: the words of nets in 64 cycles.
 //! - `moves`: in which cycles registers take another bit.
@@ -25,7 +24,6 @@ mod cycles;
 mod moves;
 mod nets;
 pub mod progress;
-mod random;
 mod search;
 mod trial;
 mod words;

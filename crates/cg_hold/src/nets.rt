@@ -8,13 +8,13 @@ ghost use Rattle.cg_netlist.specs.Circuit.{LogicCell};
 ghost use Rattle.cg_netlist.specs.Moment.{function_value};
 ghost use Rattle.cg_netlist.specs.Netlist.{widest_of};
 
-use crate::random::Random;
 use crate::words::gate_word;
 use cg_machine::machine::Machine;
 use cg_net::id::{CellId, NetId};
 use cg_netlist::driver::Driver;
 use cg_netlist::walk::{gather, put};
 use cg_word::words::{function_word, inverse};
+use cg_xorshift::Random;
 use std::alloc::{AllocError, Global};
 
 /// The words of the nets before cells are laid: random ones at data inputs, and at the outputs of registers what they

@@ -66,7 +66,7 @@ pub const MOST_ROWS: usize = 1_048_576;
 /// The variables that a DIMACS file may have.
 pub const MOST_VARIABLES: u32 = 16_777_216;
 
-// What the numbers of options may be, and what stands for one that is not given.
+// What options and sizes may be, and what stands for an option that is not given.
 
 /// The least number of registers that a stage has to have, where `--min` does not say it.
 pub const DEFAULT_MIN: u32 = 1;
@@ -94,3 +94,12 @@ pub const LEAST_ROUNDS: u32 = 0;
 
 /// The most that `--rounds` takes.
 pub const MOST_ROUNDS: u32 = 16;
+
+/// What the names of added nets begin with, where `--prefix` does not say it.
+pub const DEFAULT_PREFIX: &str = "cg_";
+
+/// The least size that `demo` takes.
+pub const LEAST_DEMO_SIZE: u32 = 1;
+
+/// The most that `demo` takes as its size.
+pub const MOST_DEMO_SIZE: u32 = 4_096;

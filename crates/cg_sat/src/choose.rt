@@ -12,9 +12,9 @@ ghost use Rattle.cg_formula.specs.Assignments.{IsFalsified, IsUnassigned};
 ghost use Rattle.cg_sat_state.specs.Trail.{lits_of};
 ghost use Rattle.cg_sat.specs.inner.Search.{IsSearch, ShowsBits, FindsOpen, HasPrefix, IsUnsatisfied, IsChoice};
 
-use crate::guide::Guide;
 use crate::problem::Problem;
 use cg_formula::{Formula, Lit};
+use cg_sat_guide::guide::Guide;
 use cg_sat_state::clauses::Clauses;
 use cg_sat_state::trail::Trail;
 use std::alloc::{AllocError, Global};

@@ -5,8 +5,8 @@ ghost use Rattle.std.specs.List.{slice_get};
 ghost use Rattle.cg_sat_state.specs.declared.trail.Entry.{Entry};
 ghost use Rattle.cg_sat.specs.inner.Search.{IsSearch, HasPrefix, MarksReasons};
 
-use crate::guide::Guide;
 use crate::problem::Problem;
+use cg_sat_guide::guide::Guide;
 use cg_sat_state::draft::LogDraft;
 use cg_sat_state::trail::Entry;
 use std::alloc::{AllocError, Global};

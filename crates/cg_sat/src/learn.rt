@@ -12,9 +12,9 @@ ghost use Rattle.cg_sat.specs.inner.Search.{IsConflict};
 ghost use Rattle.cg_sat.specs.inner.Learn.{is_marked, VariablesBelow, Derives, AreClear, IsDecided, AreImplied, Gathered, IsTop};
 ghost use Rattle.cg_sat.specs.inner.Learn.{IsLevel, IsPoint, Teaches};
 
-use crate::guide::Guide;
 use crate::units::is_unit;
 use cg_formula::Lit;
+use cg_sat_guide::guide::Guide;
 use cg_sat_state::clauses::Clauses;
 use cg_sat_state::trail::Entry;
 use std::alloc::{AllocError, Global};

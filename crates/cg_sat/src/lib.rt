@@ -3,12 +3,12 @@
 //!
 //! It learns a clause from each conflict (conflict-driven clause learning, Marques-Silva and Sakallah 1996), looks at
 //! two literals of each clause, and never restarts. Its clauses, its log so far and the literals that are true stand in
-//! `cg_sat_state`. It shares no code with the checker of logs.
+//! `cg_sat_state`; what to look at, to decide and to delete is proposed by `cg_sat_guide`, on which no answer rests. It shares
+//! no code with the checker of logs.
 //!
 //! In the order in which data flows through them:
 //!
 //! - `problem`: what a search is about;
-//! - `shorts`, `watches`, `order`, `merits`, `guide`: what to look at, to decide and to delete; no answer rests on them;
 //! - `scan`, `propagate`: what follows from the literals that are true;
 //! - `learn`: the clause that a conflict teaches, with its hints;
 //! - `undo`, `units`, `forget`: the trail cut, clauses of single literals, clauses deleted;
@@ -18,17 +18,12 @@
 
 mod choose;
 mod forget;
-mod guide;
 mod learn;
-mod merits;
-mod order;
 mod problem;
 mod propagate;
 mod scan;
 mod search;
-mod shorts;
 mod undo;
 mod units;
-mod watches;
 
 pub use search::{Solved, Solver, solve};

@@ -7,11 +7,11 @@ ghost use Rattle.cg_sat_state.specs.Trail.{lits_of, IsImplied};
 ghost use Rattle.cg_sat.specs.inner.Scan.{Finds};
 ghost use Rattle.cg_sat.specs.inner.Search.{IsSearch, Grows, IsConflict, IsLook};
 
-use crate::guide::Guide;
 use crate::scan::{Rest, rest_of};
-use crate::shorts::{Shorts, last_of};
-use crate::watches::{Turn, Watch, Watches, code_of, lit_of};
 use cg_formula::Lit;
+use cg_sat_guide::guide::Guide;
+use cg_sat_guide::shorts::{Shorts, last_of};
+use cg_sat_guide::watches::{Turn, Watch, Watches, code_of, lit_of};
 use cg_sat_state::clauses::Clauses;
 use cg_sat_state::trail::{Entry, Trail};
 use std::alloc::AllocError;

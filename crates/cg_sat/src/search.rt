@@ -17,7 +17,6 @@ ghost use Rattle.cg_sat.specs.inner.End.{IsEnd, IsTurn};
 
 use crate::choose::{Choice, choose, open_lit};
 use crate::forget::forget;
-use crate::guide::Guide;
 use crate::learn::{Learnt, Lesson, Work, learn};
 use crate::problem::Problem;
 use crate::propagate::{imply, propagate};
@@ -26,6 +25,7 @@ use crate::undo::cut_to;
 use crate::units::add_units;
 use cg_formula::Formula;
 use cg_lrat::Log;
+use cg_sat_guide::guide::Guide;
 use cg_sat_state::clauses::Clauses;
 use cg_sat_state::draft::LogDraft;
 use cg_sat_state::trail::{Entry, Trail};

@@ -6,7 +6,7 @@ ghost use Rattle.cg_sat_state.specs.declared.trail.Entry.{Entry};
 ghost use Rattle.cg_formula.specs.Assignments.{IsUnassigned};
 ghost use Rattle.cg_sat_state.specs.Trail.{lits_of};
 
-use crate::order::Order;
+use cg_sat_guide::order::Order;
 use cg_sat_state::trail::Trail;
 use std::alloc::AllocError;
 

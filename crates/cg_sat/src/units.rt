@@ -14,9 +14,9 @@ ghost use Rattle.cg_sat.specs.inner.Derive.{Follows};
 ghost use Rattle.cg_sat_state.specs.Store.{clause_at, live_of};
 ghost use Rattle.cg_sat.specs.inner.Search.{IsSearch, HasPrefix};
 
-use crate::guide::Guide;
 use crate::problem::Problem;
 use cg_formula::Lit;
+use cg_sat_guide::guide::Guide;
 use cg_sat_state::clauses::Clauses;
 use cg_sat_state::draft::LogDraft;
 use cg_sat_state::trail::{Entry, Trail};

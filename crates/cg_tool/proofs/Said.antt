@@ -60,4 +60,6 @@ has_these_bounds = record {
   least_rounds = refl;
   most_rounds = refl;
   default_rounds = refl;
+  least_demo_size = refl;
+  most_demo_size = refl;
 }

@@ -1,15 +1,15 @@
-//! Pseudo-random words. No answer rests on which they are.
+//! Pseudo-random words.
 
 ghost use Rattle.std.specs.Prelude.{◌≡◌, IfOk, length};
 
 use std::alloc::{AllocError, Global};
 
-// Where the words begin: any number but 0 (xorshift, Marsaglia 2003).
+// Where the words begin: any number but 0.
 const SEED: u64 = 0x9e37_79b9_7f4a_7c15;
 
 /// Words to come, the same each time.
 #[derive(Drop)]
-pub(crate) struct Random {
+pub struct Random {
     state: u64,
 }
 

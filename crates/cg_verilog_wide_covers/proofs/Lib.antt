@@ -1,0 +1,4 @@
+pub mod Assignments
+pub mod FormsOfValues
+pub mod PlainValues
+pub mod ValuesMean

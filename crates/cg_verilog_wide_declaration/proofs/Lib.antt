@@ -1,0 +1,2 @@
+pub mod NextWords
+pub mod PortsRead

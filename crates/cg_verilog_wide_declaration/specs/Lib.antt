@@ -1,0 +1,2 @@
+pub mod NamesSeen
+pub mod NetsSeen

@@ -1,0 +1,4 @@
+pub mod EndedSeen
+pub mod ExpressionSeen
+pub mod LevelReads
+pub mod Levels

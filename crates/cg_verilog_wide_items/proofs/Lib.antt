@@ -1,0 +1,3 @@
+pub mod BitsRead
+pub mod Passing
+pub mod Turns

@@ -1,0 +1,3 @@
+pub mod CellsRead
+pub mod Insides
+pub mod PinsRead

@@ -1,0 +1,2 @@
+pub mod StatementsMade
+pub mod StatementsRead

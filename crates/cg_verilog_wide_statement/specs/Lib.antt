@@ -1,0 +1,2 @@
+pub mod StatementReads
+pub mod StatementSeen

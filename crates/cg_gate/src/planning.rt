@@ -1,6 +1,6 @@
 //! The hints and the plan of a netlist, and the netlist that the plan's machine is written as.
 
-ghost use Rattle.std.specs.Prelude.{◌≡◌, ℕ, List, Some, IfOk, IfErr, IsTrue, [], map, unwrap_or};
+ghost use Rattle.std.specs.Prelude.{◌≡◌, ℕ, List, Some, IfOk, IfErr, IsTrue, [], length, map, unwrap_or};
 ghost use Rattle.std.specs.Option.{option_copied, option_or};
 ghost use Rattle.cg_cell.specs.Name.{is_name};
 ghost use Rattle.cg_extract.specs.Lifted.{bare, lifted};
@@ -9,6 +9,7 @@ ghost use Rattle.cg_gate.specs.Gating.{AreHintsTried, IsBegunPlan};
 ghost use Rattle.cg_gate.specs.Left.{IsGatedAs, gated_by};
 ghost use Rattle.cg_gate.specs.Proper.{IsProper};
 ghost use Rattle.cg_gate.specs.Request.{MayGate, begun_of, gating_of, hints_limit, plan_limit, stops_at};
+ghost use Rattle.cg_hold.specs.Progress.{AtMostOneCourse, OneCourse, WholeCourse};
 ghost use Rattle.cg_insert.specs.Insert.{CanInsert};
 ghost use Rattle.cg_insert.specs.Inserting.{insertion};
 ghost use Rattle.cg_limit.specs.Answers.{OrNoMemory};
@@ -125,6 +126,8 @@ pub fn gate_netlist(
     ensures fits { IfOk result (λ gated. (stimulus : Rows) → request.now.stimulus ≡ Some stimulus → IsFor gated.netlist stimulus) }
     ensures proper { IsProper request.now }
     ensures fault { IfErr result (PlanMayFail (stops_at request.now netlist)) }
+    ensures course { AtMostOneCourse (heard progress.old) (heard progress.new) }
+    ensures whole { IfOk result (λ gated. WholeCourse (begun_of request.now netlist).own_registers (length gated.plan.stages) (heard progress.old) (heard progress.new)) }
 {
     hold_request(request);
     let planned = plan_netlist(alloc, netlist, request, progress)?;
@@ -180,6 +183,8 @@ fn plan_netlist(
     ensures kept { IfOk result (λ planned. unwrap_or planned.kept (bare netlist) ≡ netlist) }
     ensures fault { IfErr result (PlanMayFail (option_or (hints_limit (gating_of request.now netlist) netlist)
         (plan_limit (gating_of request.now netlist) netlist))) }
+    ensures course { AtMostOneCourse (heard progress.old) (heard progress.new) }
+    ensures whole { IfOk result (λ planned. WholeCourse (begun_of request.now netlist).own_registers (length planned.plan.stages) (heard progress.old) (heard progress.new)) }
 {
     let begun = begin(alloc, netlist, request)?;
     plan_hinted(alloc, begun, request, progress)
@@ -226,6 +231,8 @@ fn plan_hinted(
     ensures plan { IfOk result (λ planned. IsBegunPlan request.now (read_of begun.kept begun.machine) (told planned.plan)) }
     ensures writable { IfOk result (λ planned. AreWritable planned.plan.certificates) }
     ensures fault { IfErr result (PlanMayFail (plan_limit (gating_of request.now (read_of begun.kept begun.machine)) (read_of begun.kept begun.machine))) }
+    ensures course { AtMostOneCourse (heard progress.old) (heard progress.new) }
+    ensures whole { IfOk result (λ planned. WholeCourse begun.machine.own_registers (length planned.plan.stages) (heard progress.old) (heard progress.new)) }
 {
     let Begun {
         machine,
@@ -256,6 +263,8 @@ fn plan_begun(
     ensures plan { IfOk result (λ plan. IsBegunPlan request.now (read_of kept.now machine) (told plan)) }
     ensures writable { IfOk result (λ plan. AreWritable plan.certificates) }
     ensures fault { IfErr result (PlanMayFail (plan_limit (gating_of request.now (read_of kept.now machine)) (read_of kept.now machine))) }
+    ensures course { AtMostOneCourse (heard progress.old) (heard progress.new) }
+    ensures whole { IfOk result (λ plan. WholeCourse machine.own_registers (length plan.stages) (heard progress.old) (heard progress.new)) }
 {
     match request.stimulus {
         None => plan_machine(alloc, machine, request, None, progress),
@@ -286,6 +295,8 @@ fn plan_machine(
     ensures plan { IfOk result (λ plan. IsPlan request.now.library request.now.settings (option_copied counts.entry) machine (told plan)) }
     ensures writable { IfOk result (λ plan. AreWritable plan.certificates) }
     ensures fault { IfErr result (PlanMayFail (plan_of request.now.library request.now.settings (option_copied counts.entry) machine).limit) }
+    ensures course { OneCourse machine.own_registers (heard progress.old) (heard progress.new) }
+    ensures whole { IfOk result (λ plan. WholeCourse machine.own_registers (length plan.stages) (heard progress.old) (heard progress.new)) }
 {
     make_plan(
         alloc,

@@ -10,3 +10,5 @@ pub mod Deciding
 pub mod Adding
 pub mod Judging
 pub mod Tried
+pub mod Telling
+pub mod Listed

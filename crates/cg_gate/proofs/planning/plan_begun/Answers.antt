@@ -9,6 +9,7 @@ use Rattle.cg_gate.proofs.planning.plan_begun.Goals as goal
 use Rattle.cg_gate.specs.Request.{MayGate, RequestData, begun_of, gating_of}
 use Rattle.cg_gate.specs.ZeroCounting.{zero_counts_of, zeros_by}
 use Rattle.cg_gate_laws.proofs.BegunSafe.{begun_few}
+use Rattle.cg_hold.specs.Progress.{One}
 use Rattle.cg_machine.specs.Machine.{MachineData}
 use Rattle.cg_netlist.specs.Circuit.{Circuit}
 use Rattle.cg_netlist.specs.History.{Moment}
@@ -107,3 +108,15 @@ returns-in-Ok-clause-fault g c =
     let same = as_wanted request netlist c.requires.may c.args.machine c.requires.begun rows some c.rows.ensures.stimulus read c.read_of-netlist.ensures zeros c.rows.result c.rows.ensures.count counted in
     let F : MachineData → Option ZeroCounts → Type 0 = λ k i. IfErr c.plan_machine-in-Some.result (PlanMayFail (plan_of request.library request.settings i k).limit) in
     subst (F (begun_of request netlist)) same (subst (λ k. F k (Some (record { zeros = zeros; rows = c.rows.result }))) c.requires.begun c.plan_machine-in-Some.ensures.fault)
+
+pub returns-in-None-clause-course : goal.returns-in-None-clause-course
+returns-in-None-clause-course g c = One c.args.machine.own_registers c.plan_machine.ensures.course
+
+pub returns-in-None-clause-whole : goal.returns-in-None-clause-whole
+returns-in-None-clause-whole g c = c.plan_machine.ensures.whole
+
+pub returns-in-Ok-clause-course : goal.returns-in-Ok-clause-course
+returns-in-Ok-clause-course g c = One c.args.machine.own_registers c.plan_machine-in-Some.ensures.course
+
+pub returns-in-Ok-clause-whole : goal.returns-in-Ok-clause-whole
+returns-in-Ok-clause-whole g c = c.plan_machine-in-Some.ensures.whole

@@ -1,4 +1,4 @@
-use Rattle.std.proofs.Common.{◌≡◌, ◌∙◌, None, IfErr, IfOk, Option, unwrap_or, ap, sym, subst}
+use Rattle.std.proofs.Common.{◌≡◌, ◌∙◌, None, IfErr, IfOk, length, Option, unwrap_or, ap, sym, subst}
 use Rattle.std.specs.Option.{option_or}
 use Rattle.cg_extract.specs.Lifted.{bare}
 use Rattle.cg_extract.specs.Reading.{read_of}
@@ -10,7 +10,9 @@ use Rattle.cg_gate.specs.Gating.{AreHintsTried, IsBegunPlan}
 use Rattle.cg_gate.specs.Request.{MayGate, RequestData, begun_of, gating_of, hints_limit, limit_of, plan_limit}
 use Rattle.cg_gate.specs.declared.planning.Begun.{Begun}
 use Rattle.cg_gate.specs.declared.planning.Planned.{Planned}
+use Rattle.cg_hold.proofs.Heard.{no_course, same_whole}
 use Rattle.cg_limit.specs.declared.Limit.{Limit}
+use Rattle.cg_machine.specs.Machine.{MachineData}
 use Rattle.cg_netlist.specs.Circuit.{Circuit}
 use Rattle.cg_plan.specs.Planning.{told}
 use Rattle.cg_plan_laws.specs.Reported.{PlanMayFail}
@@ -58,3 +60,11 @@ returns-clause-fault g c =
     (read_is request netlist c.in_ok-begun.begun c.requires c.in_ok-begun.ensures.machine c.in_ok-begun.ensures.kept) c.plan_hinted.ensures.fault in
     if_err (PlanMayFail (plan_limit by netlist)) (PlanMayFail (option_or (hints_limit by netlist) (plan_limit by netlist))) c.plan_hinted.result
     (λ fault may. subst (λ (l : Option Limit). PlanMayFail (option_or l (plan_limit by netlist)) fault) (sym none) may) may
+
+pub returns-in_err-begun-clause-course : goal.returns-in_err-begun-clause-course
+returns-in_err-begun-clause-course g c = no_course _
+
+pub returns-clause-whole : goal.returns-clause-whole
+returns-clause-whole g c =
+    same_whole c.plan_hinted.result (λ (planned : Planned). length planned.plan.stages) _ _ c.in_ok-begun.begun.machine.own_registers (begun_of c.args.request.now c.args.netlist).own_registers
+    (ap (λ (m : MachineData). m.own_registers) c.in_ok-begun.ensures.machine) c.plan_hinted.ensures.whole

@@ -1,4 +1,4 @@
-use Rattle.std.proofs.Common.{◌≡◌, ◌+◌, length, refl, sym, ◌∙◌, ap, subst, arith}
+use Rattle.std.proofs.Common.{refl, sym, ◌∙◌, ap, subst}
 use Rattle.cg_plan_laws.specs.Plan.{try_one}
 use Rattle.cg_plan.specs.declared.plan.Draft.{Draft}
 use Rattle.cg_plan.specs.inner.Drafting.{Leads, StayCleared, StillFit}
@@ -14,10 +14,9 @@ returns-clause-leads c =
     let settings = c.args.rules.now.settings.now in
     let e : Draft = record d { machine = c.try_stage.new.machine; certificates = c.try_stage.new.into; judge = c.try_stage.new.self } in
     let done = c.in_ok-outcome.ensures.tried in
-    let count : c.in_ok-number.number ≡ 1 + length d.stages = omega (arith, c.in_ok-number.ensures, c.len.ensures.count) in
     subst (Leads settings (λ p. try_one library settings p c.args.stage) d) (sym c.in_ok-keep.ensures)
     (leads_one library settings d e c.in_ok-number.number c.args.stage c.in_ok-outcome.outcome
-    (record { count = count; tells = done.outcome; machine = done.machine; stages = refl; earlier = refl; certificates = done.certificates; writable = done.writable }))
+    (record { count = c.in_ok-number.ensures; tells = done.outcome; machine = done.machine; stages = refl; earlier = refl; certificates = done.certificates; writable = done.writable }))
 
 pub returns-clause-rest : goal.returns-clause-rest
 returns-clause-rest c =

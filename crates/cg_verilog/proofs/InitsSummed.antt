@@ -10,7 +10,7 @@ use Rattle.std.proofs.lemmas.List.Elements.{All-push}
 use Rattle.cg_cell.specs.Name.{are_distinct}
 use Rattle.cg_net.specs.Names.{NetName, is_known, with_name}
 use Rattle.cg_netlist_parts.proofs.KnownNames.{known-append, word_at}
-use Rattle.cg_verilog_items.proofs.KnownNets.{known_with, or_none, turned}
+use Rattle.cg_verilog_expression.proofs.KnownNets.{known_with, or_none, turned}
 use Rattle.cg_verilog_text.specs.Meaning.{Init, are_inits, bit_number}
 use Rattle.cg_verilog.specs.GivenInits.{GivenInits, are_of, no_inits, with_init}
 

@@ -4,9 +4,9 @@ use Rattle.cg_cell.specs.Cell.{CellData}
 use Rattle.cg_verilog_text.specs.Items.{Item, item, items, items_within, line_of, put_item}
 use Rattle.cg_verilog_text.specs.Reading.{Got, Read, is_next, is_word}
 use Rattle.cg_verilog_text.specs.Tokens.{Token}
-use Rattle.cg_verilog_items.specs.Readings.{Stops}
-use Rattle.cg_verilog_items.specs.declared.stop.Stop.TheVariants.{At}
-use Rattle.cg_verilog_items.proofs.Shorter.{got_shorter}
+use Rattle.cg_verilog_expression.specs.Readings.{Stops}
+use Rattle.cg_verilog_expression.specs.declared.stop.Stop.TheVariants.{At}
+use Rattle.cg_verilog_expression.proofs.Shorter.{got_shorter}
 use Rattle.cg_verilog_items.proofs.ShorterItems.{item_shorter}
 use Rattle.cg_verilog.specs.Reads.{StopsAtItem}
 use Rattle.cg_verilog.specs.Summary.{Ending, Summary, ending, put}

@@ -8,7 +8,7 @@ use Rattle.cg_netlist_builder.proofs.Mentions.{with_names-append}
 use Rattle.cg_verilog_text.specs.Items.{ItemAt}
 use Rattle.cg_verilog_text.specs.Meaning.{are_inits, inits_in, updated_in}
 use Rattle.cg_verilog_text.specs.TextItems.{inits_of, updated}
-use Rattle.cg_verilog_items.proofs.KnownNets.{known_names}
+use Rattle.cg_verilog_expression.proofs.KnownNets.{known_names}
 use Rattle.cg_verilog.specs.GivenInits.{are_of, no_inits, with_init}
 use Rattle.cg_verilog.specs.Summary.{Summary, put}
 use Rattle.cg_verilog.proofs.InitsSummed.{Sums, are_of_inits, sums_more, sums_none}

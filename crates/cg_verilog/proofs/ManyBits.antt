@@ -16,7 +16,7 @@ use Rattle.cg_netlist.specs.Circuit.{RegisterCell}
 use Rattle.cg_netlist_parts.specs.Said.{Said, limit_of, with_part}
 use Rattle.cg_netlist_parts.proofs.Different.{Apart, apart_from, no_more}
 use Rattle.cg_text.specs.Numbers.{digits_after}
-use Rattle.cg_verilog_items.proofs.KnownNets.{known_with}
+use Rattle.cg_verilog_expression.proofs.KnownNets.{known_with}
 use Rattle.cg_verilog_text.specs.Items.{Range}
 use Rattle.cg_verilog_text.specs.Meaning.{bits_of, digits_within, index_text, indices}
 use Rattle.cg_verilog_text.specs.Telling.{unless, with_parts}

@@ -22,8 +22,8 @@ use cg_limit::{Limit, MOST_COVER_INPUTS};
 use cg_net::names::NetNames;
 use cg_netlist::fault::AddFault;
 use cg_netlist_builder::builder::Builder;
-use cg_verilog_items::form::Form;
-use cg_verilog_items::net::Net;
+use cg_verilog_expression::form::Form;
+use cg_verilog_expression::net::Net;
 use cg_verilog_text::fault::ItemFault;
 use std::alloc::{AllocError, Global};
 

@@ -14,7 +14,7 @@ use cg_cell::rows::CoverRows;
 use cg_cell::shared_covers::SharedCovers;
 use cg_list::Seq;
 use cg_net::names::NetNames;
-use cg_verilog_items::term::Literal;
+use cg_verilog_expression::term::Literal;
 use smallvec::SmallVec;
 use std::alloc::{AllocError, Global};
 

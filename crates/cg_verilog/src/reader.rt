@@ -20,8 +20,10 @@ use cg_netlist::fault::AddFault;
 use cg_netlist::netlist::Netlist;
 use cg_netlist_builder::builder::Builder;
 use cg_netlist_parts::fault::NetFault;
-use cg_verilog_items::reading::Reading;
-use cg_verilog_items::stop::Stop;
+use cg_verilog_expression::reading::Reading;
+use cg_verilog_expression::stop::Stop;
+use cg_verilog_items::item::read_item;
+use cg_verilog_items::names::read_header;
 use cg_verilog_text::fault::{ItemFault, VerilogFault};
 use cg_verilog_tokens::tokens::Tokens;
 use std::alloc::Global;
@@ -84,7 +86,7 @@ fn tell(alloc: Global, text: &[u8], library: &Library) -> Result<Telling, Verilo
     ensures { IsTold library.now text.now result }
 {
     let mut reading = Reading::new(Tokens::new(text));
-    match reading.header(alloc) {
+    match read_header(alloc, &mut reading) {
         Err(Stop::NoMemory) => Err(VerilogFault::NoMemory),
         Err(Stop::At(line)) => Err(VerilogFault::BadText(line)),
         Ok(model) => {
@@ -128,7 +130,7 @@ fn tell_items(
             return Ok(None);
         }
         let line = reading.line();
-        match reading.item(alloc) {
+        match read_item(alloc, reading) {
             Err(Stop::NoMemory) => return Err(VerilogFault::NoMemory),
             Err(Stop::At(line)) => return Ok(Some(line)),
             Ok(item) => telling.put(alloc, library, line, item)?,

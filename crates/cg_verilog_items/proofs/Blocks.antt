@@ -3,10 +3,11 @@ use Rattle.std.proofs.Common.{◌≡◌, ℕ, zero, suc, ◌<◌, Bool, true, fa
 use Rattle.cg_verilog_text.specs.Items.{Update, block_turn, update, update_turn}
 use Rattle.cg_verilog_text.specs.Reading.{Got, Last, More, Read, Stuck, behind, is_next, is_word, take_turn, turns, turns_within}
 use Rattle.cg_verilog_text.specs.Tokens.{Token}
-use Rattle.cg_verilog_items.specs.Readings.{Stops}
-use Rattle.cg_verilog_items.specs.declared.stop.Stop.{Stop}
-use Rattle.cg_verilog_items.specs.declared.stop.Stop.TheVariants.{At, NoMemory}
-use Rattle.cg_verilog_items.proofs.Shorter.{got_shorter, update_shorter}
+use Rattle.cg_verilog_expression.specs.Readings.{Stops}
+use Rattle.cg_verilog_expression.specs.declared.stop.Stop.{Stop}
+use Rattle.cg_verilog_expression.specs.declared.stop.Stop.TheVariants.{At, NoMemory}
+use Rattle.cg_verilog_expression.proofs.Shorter.{got_shorter}
+use Rattle.cg_verilog_items.proofs.ShorterItems.{update_shorter}
 
 abbrev turned : ℕ → List Update → List Token → Read (List Update)
 turned n updates ts = turns_within n block_turn updates ts

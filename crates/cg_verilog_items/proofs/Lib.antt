@@ -1,9 +1,2 @@
 pub mod Blocks
-pub mod IndexedNames
-pub mod Inverted
-pub mod KnownNets
-pub mod Literals
-pub mod Parting
-pub mod Passing
-pub mod Shorter
 pub mod ShorterItems

@@ -1,58 +1,26 @@
 -- An item that is read takes a token.
-use Rattle.std.proofs.Common.{ℕ, zero, suc, ◌<◌, ◌≤◌, Bool, true, false, ◌&&◌, List, [], ◌∷◌, ◌++◌, length, if◌then◌else◌, arith, codes, refl, ◌≡◌, Option, None, Some}
+use Rattle.std.proofs.Common.{ℕ, zero, suc, ◌<◌, ◌≤◌, Bool, true, false, List, [], ◌∷◌, ◌++◌, length, if◌then◌else◌, arith, codes, refl, ◌≡◌, Option, None, Some}
 use Rattle.cg_net.specs.Names.{NetName}
-use Rattle.cg_verilog_text.specs.Forms.{Choice, Constant, Differ, Form, Literal, Sum, choosing, differing, form, from_literal, literal, product, rest_of_sum, rest_of_term, sum}
-use Rattle.cg_verilog_text.specs.Items.{Always, Assign, Initial, Input, Item, Output, Place, Range, Reg, Update, Wire, assignment, block_turn, declaration, declared, ended, event, initial, item, made, pin, placed, range, rarer_item, register_declaration, registers, update, update_turn, updates, whole_range}
-use Rattle.cg_verilog_text.specs.Reading.{Got, Halt, Last, More, Read, Reader, Stuck, after, behind, bit, ended_by, is_bit, is_label, is_mark, is_next, is_numeral, is_word, mark, name, net, pass, separated, take_turn, turns_within, word}
+use Rattle.cg_verilog_text.specs.Forms.{form}
+use Rattle.cg_verilog_text.specs.Items.{Always, Assign, Initial, Input, Item, Output, Place, Range, Reg, Update, Wire, arrow, assignment, block_turn, declaration, declared, ended, event, initial, item, made, pin, pin_net, placed, range, rarer_item, register_declaration, registers, update, update_turn, updates, whole_range}
+use Rattle.cg_verilog_text.specs.Reading.{Got, Last, Read, Stuck, after, behind, bit, ended_by, is_arrow, is_label, is_mark, is_next, is_numeral, is_word, mark, name, net, pass, separated, take_turn, turns_within, word}
 use Rattle.cg_verilog_text.specs.Tokens.{Token}
-use Rattle.cg_verilog_items.proofs.Passing.{next_shrinks}
-use Rattle.cg_verilog_items.proofs.Shorter.{Keeps, Shorter, Takes, behind_few, bit_shorter, declared_shorter, either_shorter, ended_shorter, literal_shorter, made_shorter, name_shorter, net_shorter, parted_shorter, passed, pin_shorter, product_shorter, sum_shorter, then_shorter, update_shorter}
+use Rattle.cg_verilog_expression.proofs.Passing.{next_shrinks}
+use Rattle.cg_verilog_expression.proofs.Shorter.{Keeps, Shorter, Takes, behind_few, bit_shorter, either_shorter, ended_shorter, form_shorter, name_shorter, net_shorter, parted_shorter, passed, then_shorter}
 
--- forms
-differing_shorter : (first : Literal NetName) → Takes (differing first)
-differing_shorter first n ts few = then_shorter n n (literal (first ∷ []) ts) (λ second later. Got (Differ first second) later) (literal_shorter (first ∷ []) n ts few) (λ second later short. short)
-
-choosing_shorter : (first : Literal NetName) → Takes (choosing first)
-choosing_shorter first n ts few =
-    then_shorter n n (ended_by 58 (literal (first ∷ []) ts)) (λ second later. after (literal (first ∷ second ∷ []) later) (λ third last. Got (Choice first second third) last))
-    (ended_shorter 58 n (literal (first ∷ []) ts) (literal_shorter (first ∷ []) n ts few))
-    (λ second later short. then_shorter n n (literal (first ∷ second ∷ []) later) (λ third last. Got (Choice first second third) last) (literal_shorter (first ∷ second ∷ []) n later (omega arith)) (λ third last less. less))
-
-term_kept : (first : Literal NetName) → Keeps (rest_of_term first)
-term_kept first n ts less =
-    either_shorter n (is_next (is_mark 38) ts) (product (first ∷ []) (behind ts)) (Got (first ∷ []) ts)
-    (product_shorter (first ∷ []) n (behind ts) (behind_few ts n (omega arith))) less
-
-sum_kept : (first : Literal NetName) → Keeps (rest_of_sum first)
-sum_kept first n ts less =
-    then_shorter n n (after (rest_of_term first ts) (λ term later. if is_next (is_mark 124) later then sum (term ∷ []) (behind later) else Got (term ∷ []) later)) (λ terms later. Got (Sum true terms) later)
-    (then_shorter n n (rest_of_term first ts) (λ term later. if is_next (is_mark 124) later then sum (term ∷ []) (behind later) else Got (term ∷ []) later) (term_kept first n ts less)
-    (λ term later short. either_shorter n (is_next (is_mark 124) later) (sum (term ∷ []) (behind later)) (Got (term ∷ []) later) (sum_shorter (term ∷ []) n (behind later) (behind_few later n (omega arith))) short))
-    (λ terms later short. short)
-
-from_kept : (first : Literal NetName) → Keeps (from_literal first)
-from_kept first n ts less =
-    either_shorter n (is_next (is_mark 94) ts) (differing first (behind ts)) (if is_next (is_mark 63) ts then choosing first (behind ts) else rest_of_sum first ts)
-    (differing_shorter first n (behind ts) (behind_few ts n (omega arith)))
-    (either_shorter n (is_next (is_mark 63) ts) (choosing first (behind ts)) (rest_of_sum first ts) (choosing_shorter first n (behind ts) (behind_few ts n (omega arith))) (sum_kept first n ts less))
-
-form_shorter : Takes form
-form_shorter n ts few =
-    either_shorter n (is_next is_bit ts) (after (bit ts) (λ value later. Got (Constant value) later)) others
-    (then_shorter n n (bit ts) (λ value later. Got (Constant value) later) (bit_shorter n ts few) (λ value later short. short))
-    (either_shorter n (is_next (is_mark 40) ts) (after (sum [] ts) (λ terms later. Got (Sum true terms) later)) (if is_next (is_mark 126) ts && is_next (is_mark 40) (behind ts) then inverse else after (literal [] ts) from_literal)
-    (then_shorter n n (sum [] ts) (λ terms later. Got (Sum true terms) later) (sum_shorter [] n ts few) (λ terms later short. short))
-    (either_shorter n (is_next (is_mark 126) ts && is_next (is_mark 40) (behind ts)) inverse (after (literal [] ts) from_literal)
-    (then_shorter n n (ended_by 41 (sum [] (behind (behind ts)))) (λ terms later. Got (Sum false terms) later) (ended_shorter 41 n (sum [] (behind (behind ts))) (sum_shorter [] n (behind (behind ts)) (behind_few (behind ts) n (behind_few ts n few)))) (λ terms later short. short))
-    (then_shorter n n (literal [] ts) from_literal (literal_shorter [] n ts few) (λ first later short. from_kept first n later short))))
-  where
-    inverse : Read (Form NetName)
-    inverse = after (ended_by 41 (sum [] (behind (behind ts)))) (λ terms later. Got (Sum false terms) later)
-
-    others : Read (Form NetName)
-    others = if is_next (is_mark 40) ts then after (sum [] ts) (λ terms later. Got (Sum true terms) later) else (if is_next (is_mark 126) ts && is_next (is_mark 40) (behind ts) then after (ended_by 41 (sum [] (behind (behind ts)))) (λ terms later. Got (Sum false terms) later) else after (literal [] ts) from_literal)
+-- what is made of what is read
+pub made_shorter : {A B : Type 0} (n : ℕ) (make : A → B) (read : Read A) → Shorter n read → Shorter n (made make read)
+made_shorter n make (Got a later) short = short
+made_shorter n make (Stuck left) short = tt
 
 -- declarations
+pub declared_shorter : (indices : Option Range) → Takes (declared indices)
+declared_shorter (Some indices) n ts few = made_shorter n (λ text. record { net = text; init = None }) (name ts) (name_shorter n ts few)
+declared_shorter None n ts few =
+    then_shorter n n (name ts) (λ text later. if is_next (is_mark 61) later then made (λ value. record { net = text; init = Some value }) (bit (behind later)) else Got (record { net = text; init = None }) later) (name_shorter n ts few)
+    (λ text later short. either_shorter n (is_next (is_mark 61) later) (made (λ value. record { net = text; init = Some value }) (bit (behind later))) (Got (record { net = text; init = None }) later)
+    (made_shorter n (λ value. record { net = text; init = Some value }) (bit (behind later)) (bit_shorter n (behind later) (behind_few later n (omega arith)))) short)
+
 range_kept : Keeps range
 range_kept n ts less =
     either_shorter n (is_next (is_mark 91) ts) (made Some (whole_range (behind ts))) (Got None ts) (made_shorter n Some (whole_range (behind ts)) whole) less
@@ -79,6 +47,15 @@ reg_shorter n ts few =
     (λ indices later less. made_shorter n (Reg indices) (ended (separated 44 (declared indices) later)) (ended_shorter 59 n (separated 44 (declared indices) later) (parted_shorter 44 (λ so_far. declared indices) (λ so_far. declared_shorter indices) [] n later (omega arith))))
 
 -- placed cells
+pub pin_shorter : Takes pin
+pin_shorter n ts few =
+    then_shorter n n (ended_by 40 (after (mark 46 ts) (λ _. name))) (λ text later. made (λ net. record { pin = text; net = net }) (ended_by 41 (pin_net later)))
+    (ended_shorter 40 n (after (mark 46 ts) (λ _. name)) (then_shorter n n (mark 46 ts) (λ _. name) (passed (is_mark 46) n ts few) (λ _ later short. name_shorter n later (omega arith))))
+    (λ text later short. made_shorter n (λ net. record { pin = text; net = net }) (ended_by 41 (pin_net later)) (ended_shorter 41 n (pin_net later) (inner later short)))
+  where
+    inner : (later : List Token) → length later < n → Shorter n (pin_net later)
+    inner later short = either_shorter n (is_next (is_mark 41) later) (Got None later) (made Some (net later)) short (made_shorter n Some (net later) (net_shorter n later (omega arith)))
+
 placed_shorter : Takes placed
 placed_shorter n ts few =
     then_shorter n n (name ts) (λ cell later. after (ended_by 40 (pass is_label later)) (λ label pins. made (Place cell label) (ended (ended_by 41 (separated 44 pin pins))))) (name_shorter n ts few)
@@ -97,6 +74,12 @@ initial_shorter n ts few =
     (λ output later short. made_shorter n (Initial output) (ended (bit later)) (ended_shorter 59 n (bit later) (bit_shorter n later (omega arith))))
 
 -- registers
+pub update_shorter : Takes update
+update_shorter n ts few =
+    then_shorter n n (net ts) (λ output later. made (λ input. record { net = output; takes = input }) (ended (after (arrow later) (λ _. net)))) (net_shorter n ts few)
+    (λ output later short. made_shorter n (λ input. record { net = output; takes = input }) (ended (after (arrow later) (λ _. net)))
+    (ended_shorter 59 n (after (arrow later) (λ _. net)) (then_shorter n n (arrow later) (λ _. net) (passed is_arrow n later (omega arith)) (λ _ last less. net_shorter n last (omega arith)))))
+
 turn_kept : (k n : ℕ) → ((so_far : List Update) (ts : List Token) → length ts ≤ n → Shorter n (turns_within k block_turn so_far ts)) → (so_far : List Update) (ts : List Token) → length ts ≤ n → Shorter n (turns_within (suc k) block_turn so_far ts)
 turn_kept k n rest so_far ts few = go (is_next (is_word (codes "end")) ts) refl
   where

@@ -1,10 +1,2 @@
-pub mod Ahead
-pub mod Before
-pub mod FormParts
-pub mod FormSeen
 pub mod ItemParts
 pub mod ItemSeen
-pub mod Nets
-pub mod Readings
-pub mod Terms
-pub mod TermsSeen

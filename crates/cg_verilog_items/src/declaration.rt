@@ -3,12 +3,12 @@
 ghost use Rattle.std.specs.Prelude.{◌≡◌};
 ghost use Rattle.cg_verilog_text.specs.Items.{declared, ended, range, whole_range};
 ghost use Rattle.cg_verilog_text.specs.Reading.{ended_by, is_numeral, pass, separated};
+ghost use Rattle.cg_verilog_expression.specs.Readings.{IsRead};
 ghost use Rattle.cg_verilog_items.specs.ItemParts.{given_init, scalar};
-ghost use Rattle.cg_verilog_items.specs.Readings.{IsRead};
 
-use crate::reading::Reading;
-use crate::stop::Stop;
 use cg_list::Seq;
+use cg_verilog_expression::reading::Reading;
+use cg_verilog_expression::stop::Stop;
 use cg_verilog_tokens::identifier::Identifier;
 use cg_verilog_tokens::numeral::Numeral;
 use std::alloc::Global;
@@ -50,112 +50,113 @@ impl<'a> Model for Declared<'a> {
     ghost view = { λ d. record { net = d.net; init = d.init } };
 }
 
-impl<'a> Reading<'a> {
-    /// Reads the indices of a vector in brackets, which may be left out.
-    pub fn range(&mut self) -> Result<Option<Range<'a>>, Stop>
-        ensures end { self.new.1 ≡ self.old.1 }
-        ensures left { IsRead self.old.1 (range self.old.0) self.new.0 result }
-    {
-        if !self.is_mark(b'[') {
-            return Ok(None);
+/// Reads the indices of a vector in brackets, which may be left out.
+pub(crate) fn read_range<'a>(reading: &mut Reading<'a>) -> Result<Option<Range<'a>>, Stop>
+    ensures end { reading.new.1 ≡ reading.old.1 }
+    ensures left { IsRead reading.old.1 (range reading.old.0) reading.new.0 result }
+{
+    if !reading.is_mark(b'[') {
+        return Ok(None);
+    }
+    reading.pass();
+    let range = read_whole_range(reading)?;
+    Ok(Some(range))
+}
+
+/// Reads the indices of a vector and the `]`.
+fn read_whole_range<'a>(reading: &mut Reading<'a>) -> Result<Range<'a>, Stop>
+    ensures end { reading.new.1 ≡ reading.old.1 }
+    ensures left { IsRead reading.old.1 (whole_range reading.old.0) reading.new.0 result }
+{
+    let high = read_first_numeral(reading)?;
+    let low = reading.closed_numeral()?;
+    Ok(Range { high, low })
+}
+
+/// Reads a number and the `:` behind it.
+fn read_first_numeral<'a>(reading: &mut Reading<'a>) -> Result<Numeral<'a>, Stop>
+    ensures end { reading.new.1 ≡ reading.old.1 }
+    ensures left { IsRead reading.old.1 (ended_by 58 (pass is_numeral reading.old.0)) reading.new.0 result }
+{
+    let index = reading.numeral()?;
+    reading.mark(b':')?;
+    Ok(index)
+}
+
+/// Reads declared registers, which have these indices, and the `;`.
+pub(crate) fn read_ended_registers<'a>(
+    alloc: Global,
+    reading: &mut Reading<'a>,
+    indices: &Option<Range<'a>>,
+) -> Result<Seq<Declared<'a>>, Stop>
+    ensures end { reading.new.1 ≡ reading.old.1 }
+    ensures left { IsRead reading.old.1 (ended (separated 44 (declared indices.now) reading.old.0)) reading.new.0 result }
+{
+    let registers = read_registers(alloc, reading, indices)?;
+    reading.mark(b';')?;
+    Ok(registers)
+}
+
+/// Reads one or more registers with a comma between each two.
+fn read_registers<'a>(
+    alloc: Global,
+    reading: &mut Reading<'a>,
+    indices: &Option<Range<'a>>,
+) -> Result<Seq<Declared<'a>>, Stop>
+    ensures end { reading.new.1 ≡ reading.old.1 }
+    ensures left { IsRead reading.old.1 (separated 44 (declared indices.now) reading.old.0) reading.new.0 result }
+{
+    let mut registers = Seq::new(alloc);
+    'registers: loop {
+        match read_declared(reading, indices) {
+            Err(stop) => return Err(stop),
+            Ok(register) => registers.push(register)?,
         }
-        self.pass();
-        let range = self.whole_range()?;
-        Ok(Some(range))
+        if !reading.is_mark(b',') {
+            return Ok(registers);
+        }
+        reading.pass();
     }
+}
 
-    /// Reads the indices of a vector and the `]`.
-    fn whole_range(&mut self) -> Result<Range<'a>, Stop>
-        ensures end { self.new.1 ≡ self.old.1 }
-        ensures left { IsRead self.old.1 (whole_range self.old.0) self.new.0 result }
-    {
-        let high = self.first_numeral()?;
-        let low = self.closed_numeral()?;
-        Ok(Range { high, low })
-    }
-
-    /// Reads a number and the `:` behind it.
-    fn first_numeral(&mut self) -> Result<Numeral<'a>, Stop>
-        ensures end { self.new.1 ≡ self.old.1 }
-        ensures left { IsRead self.old.1 (ended_by 58 (pass is_numeral self.old.0)) self.new.0 result }
-    {
-        let index = self.numeral()?;
-        self.mark(b':')?;
-        Ok(index)
-    }
-
-    /// Reads declared registers, which have these indices, and the `;`.
-    pub fn ended_registers(
-        &mut self,
-        alloc: Global,
-        indices: &Option<Range<'a>>,
-    ) -> Result<Seq<Declared<'a>>, Stop>
-        ensures end { self.new.1 ≡ self.old.1 }
-        ensures left { IsRead self.old.1 (ended (separated 44 (declared indices.now) self.old.0)) self.new.0 result }
-    {
-        let registers = self.registers(alloc, indices)?;
-        self.mark(b';')?;
-        Ok(registers)
-    }
-
-    /// Reads one or more registers with a comma between each two.
-    fn registers(
-        &mut self,
-        alloc: Global,
-        indices: &Option<Range<'a>>,
-    ) -> Result<Seq<Declared<'a>>, Stop>
-        ensures end { self.new.1 ≡ self.old.1 }
-        ensures left { IsRead self.old.1 (separated 44 (declared indices.now) self.old.0) self.new.0 result }
-    {
-        let mut registers = Seq::new(alloc);
-        'registers: loop {
-            match self.declared(indices) {
-                Err(stop) => return Err(stop),
-                Ok(register) => registers.push(register)?,
-            }
-            if !self.is_mark(b',') {
-                return Ok(registers);
-            }
-            self.pass();
+/// Reads a register: a vector has no init here.
+fn read_declared<'a>(
+    reading: &mut Reading<'a>,
+    indices: &Option<Range<'a>>,
+) -> Result<Declared<'a>, Stop>
+    ensures end { reading.new.1 ≡ reading.old.1 }
+    ensures left { IsRead reading.old.1 (declared indices.now reading.old.0) reading.new.0 result }
+{
+    match indices {
+        None => read_scalar(reading),
+        Some(_) => {
+            let net = reading.name()?;
+            Ok(Declared { net, init: None })
         }
     }
+}
 
-    /// Reads a register: a vector has no init here.
-    fn declared(&mut self, indices: &Option<Range<'a>>) -> Result<Declared<'a>, Stop>
-        ensures end { self.new.1 ≡ self.old.1 }
-        ensures left { IsRead self.old.1 (declared indices.now self.old.0) self.new.0 result }
-    {
-        match indices {
-            None => self.scalar(),
-            Some(_) => {
-                let net = self.name()?;
-                Ok(Declared { net, init: None })
-            }
-        }
+/// Reads a register that is no vector.
+fn read_scalar<'a>(reading: &mut Reading<'a>) -> Result<Declared<'a>, Stop>
+    ensures end { reading.new.1 ≡ reading.old.1 }
+    ensures left { IsRead reading.old.1 (scalar reading.old.0) reading.new.0 result }
+{
+    let net = reading.name()?;
+    if reading.is_mark(b'=') {
+        reading.pass();
+        return read_given_init(reading, net);
     }
+    Ok(Declared { net, init: None })
+}
 
-    /// Reads a register that is no vector.
-    fn scalar(&mut self) -> Result<Declared<'a>, Stop>
-        ensures end { self.new.1 ≡ self.old.1 }
-        ensures left { IsRead self.old.1 (scalar self.old.0) self.new.0 result }
-    {
-        let net = self.name()?;
-        if self.is_mark(b'=') {
-            self.pass();
-            return self.given_init(net);
-        }
-        Ok(Declared { net, init: None })
-    }
-
-    /// Reads the init of a register.
-    fn given_init(&mut self, net: Identifier<'a>) -> Result<Declared<'a>, Stop>
-        ensures end { self.new.1 ≡ self.old.1 }
-        ensures left { IsRead self.old.1 (given_init net.entry self.old.0) self.new.0 result }
-    {
-        let value = self.bit()?;
-        Ok(Declared {
-            net,
-            init: Some(value),
-        })
-    }
+/// Reads the init of a register.
+fn read_given_init<'a>(reading: &mut Reading<'a>, net: Identifier<'a>) -> Result<Declared<'a>, Stop>
+    ensures end { reading.new.1 ≡ reading.old.1 }
+    ensures left { IsRead reading.old.1 (given_init net.entry reading.old.0) reading.new.0 result }
+{
+    let value = reading.bit()?;
+    Ok(Declared {
+        net,
+        init: Some(value),
+    })
 }

@@ -2,7 +2,7 @@ use Rattle.std.proofs.Common.{[], ◌≡◌, ◌∷◌, ◌++◌, List, IsTrue, 
 use Rattle.cg_cell.specs.Name.{is_name}
 use Rattle.cg_verilog_text.specs.Meaning.{index_text}
 use Rattle.cg_verilog_text.proofs.NamesRead.{bit_named}
-use Rattle.cg_verilog_items.proofs.IndexedNames.{joined}
+use Rattle.cg_verilog_expression.proofs.IndexedNames.{joined}
 use Rattle.cg_verilog.proofs.declare.bit_name.Goals as goal
 
 pub returns-clause-named : goal.returns-clause-named

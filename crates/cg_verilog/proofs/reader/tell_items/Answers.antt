@@ -1,8 +1,8 @@
 use Rattle.std.proofs.Common.{◌≡◌, ◌∙◌, ap, subst, sym}
 use Rattle.cg_verilog_text.specs.Items.{item, items, line_of}
-use Rattle.cg_verilog_items.specs.Readings.{Stops}
-use Rattle.cg_verilog_items.specs.declared.stop.Stop.{Stop}
-use Rattle.cg_verilog_items.specs.declared.stop.Stop.TheVariants.{At}
+use Rattle.cg_verilog_expression.specs.Readings.{Stops}
+use Rattle.cg_verilog_expression.specs.declared.stop.Stop.{Stop}
+use Rattle.cg_verilog_expression.specs.declared.stop.Stop.TheVariants.{At}
 use Rattle.cg_verilog.specs.Reads.{StopsAtItem}
 use Rattle.cg_verilog.specs.Summary.{Summary, ending, put}
 use Rattle.cg_verilog.specs.Tellings.{summed}
@@ -29,7 +29,7 @@ returns-in-Err-At-clause-told c =
     )
 
 pub items-smaller : goal.items-smaller
-items-smaller c = items_shrink c.args.library.now c.items.reading.0 c.in-Ok.item c.item.new.self.0 c.in-Ok.ensures.left
+items-smaller c = items_shrink c.args.library.now c.items.reading.0 c.in-Ok.item c.read_item.new.reading.0 c.in-Ok.ensures.left
 
 pub items-preserved : goal.items-preserved
 items-preserved c =
@@ -37,7 +37,7 @@ items-preserved c =
     let whole = ending library (summed c.args.telling.now) (items c.args.reading.now.0) in
     let s = summed c.items.telling in
     let ts = c.items.reading.0 in
-    let later = c.item.new.self.0 in
+    let later = c.read_item.new.reading.0 in
     let one = c.in-Ok.item in
     let line : c.line-line.result ≡ line_of 0 ts = c.line-line.ensures ∙ line_same library c.items.reading.1 ts one later c.in-Ok.ensures.left in
     let told : summed c.put.new.self ≡ put library s (record { line = line_of 0 ts; item = one }) = c.in_ok-put-in-Ok.ensures.1 ∙ ap (λ n. put library s (record { line = n; item = one })) line in

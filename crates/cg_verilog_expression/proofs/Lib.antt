@@ -1,0 +1,7 @@
+pub mod IndexedNames
+pub mod Inverted
+pub mod KnownNets
+pub mod Literals
+pub mod Parting
+pub mod Passing
+pub mod Shorter

@@ -1,8 +1,0 @@
-use Rattle.std.proofs.Common.{sym, ap, ◌∙◌}
-use Rattle.cg_verilog_text.specs.Reading.{Got, is_arrow}
-use Rattle.cg_verilog_items.specs.Readings.{next_text}
-use Rattle.cg_verilog_items.proofs.Passing.{pass_next}
-use Rattle.cg_verilog_items.proofs.reading.Reading.arrow.Goals as goal
-
-pub returns-clause-left : goal.returns-clause-left
-returns-clause-left c = (next_text c.args.self.now.0, pass_next is_arrow c.args.self.now.0 (sym c.if-not-is_arrow.ensures) ∙ ap (λ l. Got (next_text c.args.self.now.0) l) (sym c.pass.ensures.left))

@@ -1,6 +1,0 @@
-use Rattle.std.proofs.Common.{take}
-use Rattle.cg_verilog_items.specs.Terms.{AreKnown}
-use Rattle.cg_verilog_items.proofs.term.table_of.Given as goal
-
-abbrev pub invariant-literals : goal.invariant-literals
-invariant-literals l = AreKnown (take l.literal-index l.literals) l.table

@@ -1,36 +1,25 @@
--- What comes of a hint, as it is told, is so; and its registers get the end of its chain.
-use Rattle.std.proofs.Common.{◌≡◌, ℕ, zero, suc, ◌<◌, Bool, true, false, not, if◌then◌else◌, List, [], ◌∷◌, slice_get, Option, None, Some, is_some}
-use Rattle.std.proofs.Common.{refl, sym, ◌∙◌, ap, subst, arith, Ok, Err, unwrap_or, ◌⊎◌, inl, inr, nat_lt}
+-- The claims of a hint as what they say, the first that is false, and the end of the chain that its registers get.
+use Rattle.std.proofs.Common.{◌≡◌, ℕ, zero, suc, ◌<◌, Bool, true, false, not, if◌then◌else◌, List, [], ◌∷◌, slice_get, None, Some}
+use Rattle.std.proofs.Common.{refl, sym, ◌∙◌, ap, subst, arith, Ok, ◌⊎◌}
 use Rattle.std.specs.List.{find}
-use Rattle.std.specs.Option.{option_map, option_or}
 use Rattle.std.proofs.lemmas.Bool.{both_ways, not-false, not-true}
 use Rattle.std.proofs.lemmas.Option.{same_Some}
-use Rattle.cg_cell.specs.Cell.{CellData}
-use Rattle.cg_cell.specs.declared.fit.FitKind.{FitKind}
-use Rattle.cg_limit.specs.declared.Limit.TheVariants.{ClaimNodes}
-use Rattle.cg_limit.specs.declared.TheConstants.{MOST_CLAIM_NODES}
 use Rattle.cg_machine.specs.Added.{Added}
 use Rattle.cg_machine.specs.Extends.{Extends}
 use Rattle.cg_machine.specs.Machine.{IsInputs, IsMachine, IsState, MachineData, enable_of, values}
 use Rattle.cg_machine.proofs.Extended.{extends_self, extends_then}
 use Rattle.cg_net.proofs.Members.{member_at}
 use Rattle.cg_net.specs.NetSets.{is_in}
-use Rattle.cg_netlist.specs.declared.fault.AddFault.TheVariants.{Limit}
 use Rattle.cg_stage_laws.proofs.Fitting.{given}
 use Rattle.cg_stage_laws.specs.Joined.{enabled}
-use Rattle.cg_stage_laws.specs.Needs.{missing}
 use Rattle.cg_hint_laws.specs.declared.hint.Hint.{Hint}
 use Rattle.cg_hint_laws.specs.declared.outcome.HintClaim.{HintClaim}
-use Rattle.cg_hint_laws.specs.declared.outcome.HintClaim.TheVariants.{Hold, Idle}
-use Rattle.cg_hint_laws.specs.declared.outcome.HintOutcome.{HintOutcome}
-use Rattle.cg_hint_laws.specs.declared.outcome.HintOutcome.TheVariants.{Inserted, NeverIdle, NoCell, Refuted, Taken, Wide}
-use Rattle.cg_hint_laws.specs.Effects.{and_then, condition_answer, delayed_by, effect}
+use Rattle.cg_hint_laws.specs.declared.outcome.HintClaim.TheVariants.{Hold}
+use Rattle.cg_hint_laws.specs.Effects.{and_then, condition_answer, delayed_by}
 use Rattle.cg_hint_laws.specs.Hints.{CanIdle, Fits, HintHold, condition_at}
-use Rattle.cg_hint_laws.specs.Laws.{IsFirstRefuted, NeverIdleIsSo, RefutedIsSo, RegistersGetChain}
-use Rattle.cg_hint_laws.specs.Needs.{needs}
+use Rattle.cg_hint_laws.specs.Laws.{IsFirstRefuted, RegistersGetChain}
 use Rattle.cg_hint_laws.specs.Question.{hold_question, idle_question}
-use Rattle.cg_hint_laws.specs.Trying.{Answer, all_claims, claim_holds, claim_nodes, claim_width, first_large, first_missing, first_refuted, first_taken}
-use Rattle.cg_hint_laws.specs.Trying.{first_wide, hold_claims, never_idle, tried}
+use Rattle.cg_hint_laws.specs.Trying.{claim_holds, hold_claims}
 use Rattle.cg_hint_laws.specs.Violates.{IsNeverOne, IsSometimesOne, is_never}
 use Rattle.cg_hint_laws.proofs.Additions.{and_then_ok}
 use Rattle.cg_hint_laws.proofs.Chains.{chain_there}
@@ -53,72 +42,6 @@ registers_get m n h c good fits free is ok r among =
     let made : Ok (enabled c h.regs) ≡ Ok n = sym (ap (λ o. and_then o (λ b. Ok (enabled b h.regs))) is) ∙ ok in
     let same : enabled c h.regs ≡ n = cc in
     subst (λ (k : MachineData). enable_of k r ≡ Some c.net) same (gives.has r among)
-
--- what ends a hint so
-abbrev Ends : Option Answer → HintOutcome → Type 0
-Ends o x = o ≡ Some (Ok x)
-
--- an answer comes of the first that is there
-first_or : (a b : Option Answer) (rest x : Answer) → unwrap_or (option_or a b) rest ≡ x → (a ≡ Some x) ⊎ (unwrap_or b rest ≡ x)
-first_or None b rest x is = inr is
-first_or (Some y) b rest x is = inl (ap Some is)
-
--- what of the first four ends a hint is none of the last two, nor is what follows
-abbrev is_late : HintOutcome → Bool
-is_late NeverIdle = true
-is_late (Refuted claim bits) = true
-is_late Inserted = false
-is_late (Taken r) = false
-is_late (NoCell kind) = false
-is_late (Wide claim width) = false
-
-module _ (library : List CellData) (width : ℕ) (m : MachineData) (h : Hint) where
-  taken_not : (o : Option ℕ) (x : HintOutcome) → is_late x ≡ true → Ends (option_map (λ r. Ok (Taken r)) o) x → ⊥
-  taken_not None x apart is = absurd (cc)
-  taken_not (Some r) x apart is = let same : Taken r ≡ x = cc in both_ways (is_late x) (ap is_late (sym same)) apart
-
-  missing_not : (o : Option FitKind) (x : HintOutcome) → is_late x ≡ true → Ends (option_map (λ k. Ok (NoCell k)) o) x → ⊥
-  missing_not None x apart is = absurd (cc)
-  missing_not (Some k) x apart is = let same : NoCell k ≡ x = cc in both_ways (is_late x) (ap is_late (sym same)) apart
-
-  wide_not : (o : Option HintClaim) (x : HintOutcome) → is_late x ≡ true → Ends (option_map (λ (c : HintClaim). Ok (Wide c (claim_width m h c))) o) x → ⊥
-  wide_not None x apart is = absurd (cc)
-  wide_not (Some c) x apart is = let same : Wide c (claim_width m h c) ≡ x = cc in both_ways (is_late x) (ap is_late (sym same)) apart
-
-  large_not : (o : Option HintClaim) (x : HintOutcome) → Ends (option_map (λ (c : HintClaim). Err (Limit ClaimNodes)) o) x → ⊥
-  large_not None x is = absurd (cc)
-  large_not (Some c) x is = absurd (cc)
-
-  rest_not : (x : HintOutcome) → is_late x ≡ true → and_then (effect m h) (λ n. Ok Inserted) ≡ Ok x → ⊥
-  rest_not x apart is =
-      let e = and_then_ok (effect m h) (λ n. Ok Inserted) x is in
-      let same : Inserted ≡ x = cc in
-      both_ways (is_late x) (ap is_late (sym same)) apart
-
-  -- it comes of one of the last two
-  of_last : (x : HintOutcome) → is_late x ≡ true → tried library width m h ≡ Ok x → (never_idle m h ≡ Some (Ok x)) ⊎ (first_refuted m h ≡ Some (Ok x))
-  of_last x apart is =
-      let rest : Answer = and_then (effect m h) (λ n. Ok Inserted) in
-      elim (first_or (first_taken m h) _ rest (Ok x) is) [
-        | inl a ↦ absurd (taken_not (find (λ r. is_some (enable_of m r)) h.regs) x apart a)
-        | inr is2 ↦ elim (first_or (first_missing library h) _ rest (Ok x) is2) [
-          | inl a ↦ absurd (missing_not (missing library (needs h)) x apart a)
-          | inr is3 ↦ elim (first_or (first_wide m width h) _ rest (Ok x) is3) [
-            | inl a ↦ absurd (wide_not (find (λ (c : HintClaim). nat_lt width (claim_width m h c)) (all_claims h)) x apart a)
-            | inr is4 ↦ elim (first_or (first_large m h) _ rest (Ok x) is4) [
-              | inl a ↦ absurd (large_not (find (λ (c : HintClaim). nat_lt MOST_CLAIM_NODES (claim_nodes m h c)) (all_claims h)) x a)
-              | inr is5 ↦ elim (first_or (never_idle m h) (first_refuted m h) rest (Ok x) is5) [
-                | inl a ↦ inl a
-                | inr is6 ↦ inr (refuted_or (first_refuted m h) x apart is6)
-              ]
-            ]
-          ]
-        ]
-      ]
-    where
-      refuted_or : (o : Option Answer) (y : HintOutcome) → is_late y ≡ true → unwrap_or o (and_then (effect m h) (λ n. Ok Inserted)) ≡ Ok y → o ≡ Some (Ok y)
-      refuted_or None y apart is = absurd (rest_not y apart is)
-      refuted_or (Some a) y apart is = ap Some is
 
 -- a claim that is found false is the first one
 pub record IsFirst {T : Type 0} (p : T → Bool) (xs : List T) (x : T) : Type 0 where
@@ -180,30 +103,3 @@ module _ (m : MachineData) (h : Hint) (good : IsMachine m) (fits : Fits m h) whe
         false_there = λ holds. both_ways (claim_holds m h (Hold r.0)) fails (so_keeps r.0 (member_at h.regs f.place r.0 r.1) holds);
         before = λ k q low there. keeps_so q (member_at h.regs k q there) (not-false (claim_holds m h (Hold q)) (f.none_before k (Hold q) low (at_mapped Hold h.regs k q there)));
       }
-
-abbrev never_or : Bool → Option Answer
-never_or b = if b then Some (Ok NeverIdle) else None
-
-never_so : (b : Bool) (x : HintOutcome) → Ends (never_or b) x → (b ≡ true) × (NeverIdle ≡ x)
-never_so true x is = (refl, cc)
-never_so false x is = absurd (cc)
-
-refuted_so : (o : Option HintClaim) (x : HintOutcome) → Ends (option_map (λ (c : HintClaim). Ok (Refuted c [])) o) x → (c : HintClaim) × (o ≡ Some c) × (Refuted c [] ≡ x)
-refuted_so None x is = absurd (cc)
-refuted_so (Some c) x is = (c, refl, cc)
-
-pub never_idle_is_so : NeverIdleIsSo
-never_idle_is_so library width m h good fits is = elim (of_last library width m h NeverIdle refl is) [
-  | inl a ↦ is_one m h good fits (never_so (claim_holds m h Idle) NeverIdle a).0
-  | inr a ↦ let r = refuted_so (find (λ (c : HintClaim). not (claim_holds m h c)) (hold_claims h)) NeverIdle a in let same : Refuted r.0 [] ≡ NeverIdle = r.2 in absurd (cc)
-]
-
-pub refuted_is_so : RefutedIsSo
-refuted_is_so library width m h claim bits good fits is = elim (of_last library width m h (Refuted claim bits) refl is) [
-  | inl a ↦ let same : NeverIdle ≡ Refuted claim bits = (never_so (claim_holds m h Idle) (Refuted claim bits) a).1 in absurd (cc)
-  | inr a ↦
-      let r = refuted_so (find (λ (c : HintClaim). not (claim_holds m h c)) (hold_claims h)) (Refuted claim bits) a in
-      let same : Refuted r.0 [] ≡ Refuted claim bits = r.2 in
-      let claim_is : r.0 ≡ claim = cc in
-      subst (IsFirstRefuted m h) claim_is (refuted_first m h good fits r.0 r.1)
-]

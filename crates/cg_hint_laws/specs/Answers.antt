@@ -1,7 +1,6 @@
 -- What the code answers of hints, beside what the definitions say: bits that violate a refuted claim, and certificates of the claims of
 -- inserted hints.
 use Rattle.std.specs.Prelude.{◌≡◌, ℕ, ◌+◌, true, if◌then◌else◌, List, [], ◌∷◌, ◌++◌, map, Result, Ok, Err}
-use Rattle.cg_cell.specs.Cell.{CellData}
 use Rattle.cg_cnf.specs.Clauses.{formula_of}
 use Rattle.cg_formula.specs.Bounds.{IsFormula}
 use Rattle.cg_lrat.specs.AcceptedLog.{IsAccepted}
@@ -17,7 +16,7 @@ use Rattle.cg_hint_laws.specs.declared.outcome.HintOutcome.TheVariants.{Refuted}
 use Rattle.cg_hint_laws.specs.Build.{claim_run}
 use Rattle.cg_hint_laws.specs.Leaves.{leaves_of}
 use Rattle.cg_hint_laws.specs.Question.{Question, hold_question}
-use Rattle.cg_hint_laws.specs.Trying.{Answer, Hinted, Turn, hinted, is_inserted, question_of}
+use Rattle.cg_hint_laws.specs.Trying.{Answer, Turn, is_inserted, question_of}
 use Rattle.cg_hint_laws.specs.Violates.{violates_at}
 
 -- an outcome but for the bits of a refuted claim
@@ -100,11 +99,3 @@ pub record Reported : Type 0 where
   pub machine : MachineData
   pub outcomes : List HintOutcome
   pub certificates : List HintCertificate
-
--- that is what comes of hints that are tried one after another, with a certificate for each register of each inserted one
-pub record AreTried (library : List CellData) (width : ℕ) (m : MachineData) (hs : List Hint) (reported : Reported) : Type 0 where
-  pub done : Hinted
-  pub tried : hinted library width m hs ≡ Ok done
-  pub machine : reported.machine ≡ done.machine
-  pub outcomes : AreShown done.turns reported.outcomes
-  pub certificates : AreCertified (turn_claims 1 done.turns) reported.certificates

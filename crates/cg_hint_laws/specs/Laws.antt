@@ -5,7 +5,6 @@ use Rattle.cg_cell.specs.Cell.{CellData}
 use Rattle.cg_limit.specs.declared.TheConstants.{MOST_CLAIM_NODES}
 use Rattle.cg_net.specs.NetSets.{is_in}
 use Rattle.cg_netlist.specs.Moment.{bit}
-use Rattle.cg_claim.specs.declared.leaf.LeafBit.{LeafBit}
 use Rattle.cg_claim.specs.form.Build.{claim_run as form_run}
 use Rattle.cg_claim.specs.form.Leaves.{leaves_of as form_leaves}
 use Rattle.cg_claim.specs.form.Violates.{Free as FormFree, violates as form_violates}
@@ -19,7 +18,7 @@ use Rattle.cg_stage_laws.specs.Needs.{missing}
 use Rattle.cg_hint_laws.specs.declared.hint.Hint.{Hint}
 use Rattle.cg_hint_laws.specs.declared.outcome.HintClaim.{HintClaim}
 use Rattle.cg_hint_laws.specs.declared.outcome.HintClaim.TheVariants.{Hold}
-use Rattle.cg_hint_laws.specs.declared.outcome.HintOutcome.TheVariants.{Inserted, NeverIdle, Refuted}
+use Rattle.cg_hint_laws.specs.declared.outcome.HintOutcome.TheVariants.{Inserted}
 use Rattle.cg_hint_laws.specs.Build.{claim_run}
 use Rattle.cg_hint_laws.specs.Effects.{effect, hint_answer}
 use Rattle.cg_hint_laws.specs.Hints.{AreFree, CanIdle, ClaimsHold, Fits, HintHold, condition_at}
@@ -166,13 +165,3 @@ pub record IsFirstRefuted (m : MachineData) (h : Hint) (claim : HintClaim) : Typ
   pub at : slice_get h.regs place ≡ Some register
   pub false_there : HintHold m h.terms h.after register → ⊥
   pub before : (k r : ℕ) → k < place → slice_get h.regs k ≡ Some r → HintHold m h.terms h.after r
-
--- What a hint is told to be that is not inserted is so. One that is never idle has a condition that is 1 in every state and with all
--- inputs; one that is refuted has a register that does not keep its bit as the hint says, and those before it keep theirs.
-abbrev pub NeverIdleIsSo : Type 0
-NeverIdleIsSo = (library : List CellData) (width : ℕ) (m : MachineData) (h : Hint) → IsMachine m → Fits m h →
-    tried library width m h ≡ Ok NeverIdle → (s x : List Bool) → IsState m s → IsInputs m x → condition_at (values m s x) h.terms ≡ true
-
-abbrev pub RefutedIsSo : Type 0
-RefutedIsSo = (library : List CellData) (width : ℕ) (m : MachineData) (h : Hint) (claim : HintClaim) (bits : List LeafBit) →
-    IsMachine m → Fits m h → tried library width m h ≡ Ok (Refuted claim bits) → IsFirstRefuted m h claim

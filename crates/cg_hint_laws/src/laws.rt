@@ -1,14 +1,13 @@
 //! What is proved of hints.
 
 ghost use Rattle.cg_hint_laws.specs.Laws.{ChainTells, ClaimsAreForms, GoalViolates, HintIsSafe, HintsAreSafe, HoldIsAlong, HoldIsSaid, IdleIsSaid, InsertedExactly, NeverIsTried};
-ghost use Rattle.cg_hint_laws.specs.Laws.{NeverIdleIsSo, RefutedIsSo, RegistersGetChain, WorthyExactly};
+ghost use Rattle.cg_hint_laws.specs.Laws.{RegistersGetChain, WorthyExactly};
 
 /// The laws of hints: where its registers hold, a hint may be inserted, and from every start with 1 in the delay registers and
 /// over every waveform the machine shows what it showed before. At bits of its leaves the goal of a claim is 1 exactly where these
 /// bits violate the claim, so that it is never 1 exactly where the claim holds over all states and inputs. So a hint is inserted
 /// exactly where it deserves it, and hints that are tried one after another change nothing that is shown, and are each inserted
-/// exactly where they are worth it unless a limit is passed. One that is told never idle or refuted is so. The claims are
-/// questions of the common form of claims.
+/// exactly where they are worth it unless a limit is passed. The claims are questions of the common form of claims.
 ///
 /// The call does nothing; callers use what it ensures.
 pub fn hint_laws()
@@ -23,7 +22,5 @@ pub fn hint_laws()
     ensures exactly { InsertedExactly }
     ensures all_safe { HintsAreSafe }
     ensures worthy { WorthyExactly }
-    ensures never_idle { NeverIdleIsSo }
-    ensures refuted { RefutedIsSo }
     ensures forms { ClaimsAreForms }
 {}

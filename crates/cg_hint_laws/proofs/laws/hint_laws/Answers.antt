@@ -1,7 +1,7 @@
 use Rattle.cg_hint_laws.proofs.laws.hint_laws.Goals as goal
 use Rattle.cg_hint_laws.proofs.AllSafe.{hints_are_safe}
 use Rattle.cg_hint_laws.proofs.Worthy.{turns_worthy}
-use Rattle.cg_hint_laws.proofs.ToldSo.{never_idle_is_so, refuted_is_so, registers_get}
+use Rattle.cg_hint_laws.proofs.ToldSo.{registers_get}
 use Rattle.cg_hint_laws.proofs.Exactly.{inserted_exactly}
 use Rattle.cg_hint_laws.proofs.Goals.{claims_are_forms, goal_violates, hold_is_said, idle_is_said, never_is_tried}
 use Rattle.cg_hint_laws.proofs.HintSafe.{hint_safe}
@@ -19,8 +19,6 @@ returns c = record {
   exactly = inserted_exactly;
   all_safe = hints_are_safe;
   worthy = turns_worthy;
-  never_idle = never_idle_is_so;
-  refuted = refuted_is_so;
   given = registers_get;
   forms = claims_are_forms;
 }

@@ -18,7 +18,6 @@ use Rattle.cg_machine.proofs.Extended.{net_kept}
 use Rattle.cg_stage_laws.proofs.Joins.{two_nets}
 use Rattle.cg_hint_laws.specs.Effects.{AddedNets, and_then, before_nets, delayed_by, for_each, joined_with}
 use Rattle.cg_hint_laws.specs.Answers.{MayFail}
-use Rattle.cg_hints.specs.inner.Adding.{AddsAs}
 
 abbrev pub with_net : MachineData → ℕ → Added
 with_net n net = record { machine = n; net = net }
@@ -31,10 +30,6 @@ passes_then wanted later (Limit limit) is = ap (λ w. and_then w later) is
 pub passes_same : {A : Type 0} (wanted other : Result A AddFault) (fault : AddFault) → wanted ≡ other → MayFail wanted fault → MayFail other fault
 passes_same wanted other NoMemory same is = tt
 passes_same wanted other (Limit limit) same is = sym same ∙ is
-
-pub adds_same : (n : MachineData) (wanted other : Result Added AddFault) (r : Result ℕ AddFault) → wanted ≡ other → AddsAs n wanted r → AddsAs n other r
-adds_same n wanted other (Ok net) same h = (sym same ∙ h.0, h.1)
-adds_same n wanted other (Err fault) same h = passes_same wanted other fault same h
 
 -- lists by place
 pub all_place : {T : Type 0} (P : T → Type 0) (xs : List T) (i : ℕ) (x : T) → AllByRecursion P xs → slice_get xs i ≡ Some x → P x

@@ -1,5 +1,5 @@
 -- Hints that are being tried, one after another.
-use Rattle.std.proofs.Common.{◌≡◌, ℕ, suc, ◌+◌, Bool, true, false, if◌then◌else◌, List, [], ◌∷◌, ◌++◌, length, Result, Ok, Err, IfOk, OnOk, refl, sym, ◌∙◌, ap, subst, arith, append_assoc}
+use Rattle.std.proofs.Common.{◌≡◌, ℕ, suc, ◌+◌, Bool, true, false, if◌then◌else◌, List, [], ◌∷◌, ◌++◌, length, Result, Ok, Err, refl, sym, ◌∙◌, ap, subst, arith, append_assoc}
 use Rattle.std.proofs.lemmas.List.{append-nil}
 use Rattle.cg_cell.specs.Cell.{CellData}
 use Rattle.cg_machine.specs.Machine.{IsMachine, MachineData}
@@ -7,9 +7,8 @@ use Rattle.cg_netlist.specs.declared.fault.AddFault.{AddFault}
 use Rattle.cg_netlist.specs.declared.fault.AddFault.TheVariants.{Limit, NoMemory}
 use Rattle.cg_hint_laws.specs.Answers.{AreAppended, AreCertified, AreShown, IsAnswer, MayFail, RegisterClaim, Reported, claims_for, turn_claims, without_bits}
 use Rattle.cg_hint_laws.specs.Effects.{and_then}
-use Rattle.cg_hint_laws.specs.Hints.{Fits}
 use Rattle.cg_hint_laws.specs.Laws.{AllFit, HintsAreSafe, IsSafe}
-use Rattle.cg_hint_laws.specs.Trying.{Answer, Hinted, Turn, after_outcome, hinted, tried, with_turn}
+use Rattle.cg_hint_laws.specs.Trying.{Hinted, Turn, after_outcome, hinted, tried, with_turn}
 use Rattle.cg_hint_laws.specs.declared.certificate.HintCertificate.{HintCertificate}
 use Rattle.cg_hint_laws.specs.declared.hint.Hint.{Hint}
 use Rattle.cg_hint_laws.specs.declared.outcome.HintOutcome.{HintOutcome}
@@ -36,13 +35,6 @@ claims_bare number m h (NoCell kind) = refl
 claims_bare number m h (Wide claim n) = refl
 claims_bare number m h NeverIdle = refl
 claims_bare number m h (Refuted claim bits) = refl
-
--- what is answered of a hint leaves a safe machine
-pub safe_answer : (library : List CellData) (width : ℕ) (m n : MachineData) (h : Hint) (result : Answer) → IsMachine m → Fits m h → IsAnswer m h (tried library width m h) result
-    → IfOk result (λ outcome. n ≡ after_outcome m h outcome) → OnOk result (IsSafe library m n)
-safe_answer library width m n h (Err fault) good fits answer machine = tt
-safe_answer library width m n h (Ok outcome) good fits answer machine =
-    subst (IsSafe library m) (sym (machine ∙ machine_bare m h outcome)) (turn_keeps library width m h (without_bits outcome) good fits answer.0).safe
 
 -- one more turn
 shown_more : (turns : List Turn) (outcomes : List HintOutcome) (turn : Turn) (outcome : HintOutcome) → AreShown turns outcomes → IsAnswer turn.machine turn.hint (Ok turn.outcome) (Ok outcome)

@@ -1,17 +1,15 @@
 -- What comes of a hint step by step.
 use Rattle.std.proofs.Common.{◌≡◌, ℕ, zero, suc, Bool, true, false, if◌then◌else◌, is_some, List, [], slice_get, unwrap_or}
-use Rattle.std.proofs.Common.{Option, None, Some, Result, OnErr, Ok, Err, ◌⊎◌, inl, inr, refl, sym, ◌∙◌, ap, subst}
+use Rattle.std.proofs.Common.{Option, None, Some, Result, OnErr, Ok, Err, ◌⊎◌, refl, sym, ◌∙◌, ap, subst}
 use Rattle.std.specs.List.{find}
 use Rattle.std.specs.Option.{option_map, option_or}
 use Rattle.cg_cell.specs.Cell.{CellData}
 use Rattle.cg_cell.specs.declared.fit.FitKind.{FitKind}
 use Rattle.cg_machine.specs.Machine.{IsMachine, MachineData, enable_of}
 use Rattle.cg_net.proofs.Members.{member_at}
-use Rattle.cg_netlist.specs.declared.fault.AddFault.{AddFault}
-use Rattle.cg_netlist.specs.declared.fault.AddFault.TheVariants.{Limit, NoMemory}
 use Rattle.cg_stage_laws.specs.Needs.{missing}
-use Rattle.cg_hint_laws.specs.Answers.{AreAppended, MayFail, claims_for, register_claims}
-use Rattle.cg_hint_laws.specs.Effects.{and_then, effect}
+use Rattle.cg_hint_laws.specs.Answers.{AreAppended, claims_for, register_claims}
+use Rattle.cg_hint_laws.specs.Effects.{effect}
 use Rattle.cg_hint_laws.specs.Hints.{Fits}
 use Rattle.cg_hint_laws.specs.Needs.{needs}
 use Rattle.cg_hint_laws.specs.Trying.{Answer, after_outcome, all_claims, first_large, first_refuted, first_wide, is_inserted}
@@ -29,30 +27,9 @@ use Rattle.cg_hints.proofs.Appending.{appended_none}
 use Rattle.cg_hints.specs.inner.Judging.{IsJudged, Pushes, by_claims, early_end, inserted}
 use Rattle.cg_unroll_cycles.specs.Asking.{AsksThere}
 
--- a fault is want of memory, or what was to be answered
-pub may_fail : {A : Type 0} (wanted : Result A AddFault) (fault : AddFault) → (fault ≡ NoMemory) ⊎ (wanted ≡ Err fault) → MayFail wanted fault
-may_fail wanted NoMemory is = tt
-may_fail wanted (Limit limit) (inl none) = absurd (cc)
-may_fail wanted (Limit limit) (inr is) = is
-
-pub fail_same : {A : Type 0} (r s : Result A AddFault) (fault : AddFault) → s ≡ r → MayFail r fault → MayFail s fault
-fail_same r s NoMemory same may = tt
-fail_same r s (Limit limit) same may = same ∙ may
-
 pub on_err : {A E : Type 0} (P : Type 0) (r : Result A E) → P → OnErr r P
 on_err P (Ok a) p = tt
 on_err P (Err e) p = p
-
--- a limit that the effect passes is what comes of the hint
-pub effect_fails : (m : MachineData) (h : Hint) (fault : AddFault) → MayFail (effect m h) fault → MayFail (inserted m h) fault
-effect_fails m h NoMemory may = tt
-effect_fails m h (Limit limit) may = ap (λ r. and_then r (λ n. Ok Inserted)) may
-
-pub effect_done : (m n : MachineData) (h : Hint) → effect m h ≡ Ok n → inserted m h ≡ Ok Inserted
-effect_done m n h is = ap (λ r. and_then r (λ n. Ok Inserted)) is
-
-pub machine_done : (m n : MachineData) (h : Hint) → effect m h ≡ Ok n → n ≡ after_outcome m h Inserted
-machine_done m n h is = sym (ap (machine_or m) is)
 
 -- an outcome that is not Inserted
 module _ (m : MachineData) (h : Hint) (outcome : HintOutcome) (ends : is_inserted outcome ≡ false) where

@@ -79,7 +79,7 @@ fn answer(
     name: &str,
     text: &[u8],
 ) -> Result<String, AllocError> {
-    let library = match read_library(alloc, cells) {
+    let library = match read_library(alloc, cells, false) {
         Ok(library) => library,
         Err(fault) => return format!(in alloc; "library {fault:?}"),
     };

@@ -5,7 +5,7 @@ use Rattle.std.specs.List.{All, find}
 use Rattle.std.proofs.lemmas.Bool.{both_ways}
 use Rattle.std.proofs.lemmas.List.Elements.{All-append, All-cons, All-nil}
 use Rattle.std.proofs.lemmas.List.Quantifiers.{position-Some}
-use Rattle.cg_cell.specs.Cell.{CellData}
+use Rattle.cg_cell.specs.Cell.{CellData, no_control}
 use Rattle.cg_cell.specs.Fit.{is_fit}
 use Rattle.cg_cell.specs.Library.{first_fit}
 use Rattle.cg_cell.specs.declared.cell.CellKind.TheVariants.{Unusable}
@@ -28,7 +28,7 @@ pub fit_there : (library : List CellData) (kind : FitKind) → is_some (first_fi
 fit_there library kind some = go (first_fit kind library) refl some
   where
     other : CellData
-    other = record { name = []; kind = Unusable; pins = []; function = None }
+    other = record { name = []; kind = Unusable; pins = []; function = None; control = no_control }
 
     go : (o : Option ℕ) → first_fit kind library ≡ o → is_some o ≡ true → HasCell library kind
     go None at h = absurd (both_ways false refl h)

@@ -32,7 +32,7 @@ pub struct Bench {
 impl Bench {
     /// The machine of the netlist that a text says with the library of another.
     pub fn new(alloc: Global, library: &[u8], netlist: &[u8]) -> Result<Bench, ()> {
-        let library = read_library(alloc, library).map_err(|_| ())?;
+        let library = read_library(alloc, library, false).map_err(|_| ())?;
         let options = BlifOptions { clock: None };
         let Ok(netlist) = read_blif(alloc, netlist, &library, &options) else {
             return Err(());

@@ -132,7 +132,7 @@ pub fn add_latch(
         None => None,
         Some(clock) => Some(clock.bytes()),
     };
-    heard(builder.register(None, &[input.bytes()], &[(output.bytes(), 0)], clock, init))
+    heard(builder.register(None, &[input.bytes()], &[], &[(output.bytes(), 0)], clock, init))
 }
 
 /// Adds the cell of a `.gate` line.

@@ -12,7 +12,7 @@ use Rattle.cg_netlist.specs.declared.parts.LogicFunction.{LogicFunction}
 use Rattle.cg_netlist.specs.declared.parts.LogicFunction.TheVariants.{Cover, Cell}
 use Rattle.cg_netlist.specs.declared.parts.RegisterKind.{RegisterKind}
 use Rattle.cg_netlist.specs.declared.parts.RegisterKind.TheVariants.{Plain, Flop}
-use Rattle.cg_netlist.specs.Circuit.{Circuit, LogicCell, GatingCell, RegisterCell}
+use Rattle.cg_netlist.specs.Circuit.{Circuit, LogicCell, GatingCell, RegisterCell, read_nets}
 use Rattle.cg_netlist.specs.WellFormed.{FitsKind}
 use Rattle.cg_netlist_parts.specs.Part.{Part, Input, Output, Clock, Logic, GaterPart, Register}
 use Rattle.cg_netlist_parts.specs.Said.{nothing_said, said}
@@ -75,43 +75,44 @@ module _ (library : List CellData) (names : (cell : CellData) → IsCell cell �
       gate_tells library g.cell (gater_nets g g.cell.pins) (GaterPart g) part.fits.0 own.0 own.1 nets (gater_is_placed library g part line)
 
   -- a plain register, on the clock that its word says
-  plain_tells : (ins : List Word) (outs : List (Word × Bool)) (pins : List ℕ) (clock : Word) (init : ℕ) → length ins ≡ 1 → map (λ (o : Word × Bool). o.1) outs ≡ false ∷ [] → pins ≡ 0 ∷ []
+  plain_tells : (ins ctl : List Word) (outs : List (Word × Bool)) (pins : List ℕ) (clock : Word) (init : ℕ) → length ins ≡ 1 → ctl ≡ [] → map (λ (o : Word × Bool). o.1) outs ≡ false ∷ [] → pins ≡ 0 ∷ []
       → AllByRecursion IsNamed ins → AllByRecursion IsNamed (map (λ (o : Word × Bool). o.0) outs) → IsNamed clock → init ≤ 3
-      → Tells library (statement_line (plain_statement ins outs clock init) ∷ []) (Register (record { inputs = ins; outputs = outs; pins = pins; clock = control_of clock; kind = Plain; init = init }) ∷ [])
-  plain_tells [] outs pins clock init one shows place i o c small = absurd (omega (arith, one))
-  plain_tells (x ∷ y ∷ ins) outs pins clock init one shows place i o c small = absurd (omega (arith, one))
-  plain_tells (x ∷ []) [] pins clock init one shows place i o c small = absurd (cc)
-  plain_tells (x ∷ []) (y ∷ z ∷ outs) pins clock init one shows place i o c small = absurd (cc)
-  plain_tells (x ∷ []) (y ∷ []) pins clock init one shows place i o c small =
+      → Tells library (statement_line (plain_statement ins outs clock init) ∷ []) (Register (record { inputs = ins; controls = ctl; outputs = outs; pins = pins; clock = control_of clock; kind = Plain; init = init }) ∷ [])
+  plain_tells [] ctl outs pins clock init one none shows place i o c small = absurd (omega (arith, one))
+  plain_tells (x ∷ y ∷ ins) ctl outs pins clock init one none shows place i o c small = absurd (omega (arith, one))
+  plain_tells (x ∷ []) ctl [] pins clock init one none shows place i o c small = absurd (cc)
+  plain_tells (x ∷ []) ctl (y ∷ z ∷ outs) pins clock init one none shows place i o c small = absurd (cc)
+  plain_tells (x ∷ []) ctl (y ∷ []) pins clock init one none shows place i o c small =
       let plain : y.1 ≡ false = cc in
-      subst (λ ps. Tells library (statement_line (plain_statement (x ∷ []) (y ∷ []) clock init) ∷ []) (Register (record { inputs = x ∷ []; outputs = y ∷ []; pins = ps; clock = control_of clock; kind = Plain; init = init }) ∷ [])) (sym place)
-      (subst (λ b. Tells library (statement_line (plain_statement (x ∷ []) ((y.0, b) ∷ []) clock init) ∷ []) (Register (record { inputs = x ∷ []; outputs = (y.0, b) ∷ []; pins = 0 ∷ []; clock = control_of clock; kind = Plain; init = init }) ∷ [])) (sym plain)
-      (latch_tells library x y.0 clock init i.0 o.0 c small))
+      subst (λ cs. Tells library (statement_line (plain_statement (x ∷ []) (y ∷ []) clock init) ∷ []) (Register (record { inputs = x ∷ []; controls = cs; outputs = y ∷ []; pins = pins; clock = control_of clock; kind = Plain; init = init }) ∷ [])) (sym none)
+      (subst (λ ps. Tells library (statement_line (plain_statement (x ∷ []) (y ∷ []) clock init) ∷ []) (Register (record { inputs = x ∷ []; controls = []; outputs = y ∷ []; pins = ps; clock = control_of clock; kind = Plain; init = init }) ∷ [])) (sym place)
+      (subst (λ b. Tells library (statement_line (plain_statement (x ∷ []) ((y.0, b) ∷ []) clock init) ∷ []) (Register (record { inputs = x ∷ []; controls = []; outputs = (y.0, b) ∷ []; pins = 0 ∷ []; clock = control_of clock; kind = Plain; init = init }) ∷ [])) (sym plain)
+      (latch_tells library x y.0 clock init i.0 o.0 c small)))
 
   module _ (r : RegisterCell Word Word) where
     -- the register as a part, where it is of this kind
     abbrev register_as : RegisterKind → RegisterCell Word (Option Word)
-    register_as kind = record { inputs = r.inputs; outputs = r.outputs; pins = r.pins; clock = (if is_plain kind && bytes_eq r.clock NIL then None else Some r.clock); kind = kind; init = r.init }
+    register_as kind = record { inputs = r.inputs; controls = r.controls; outputs = r.outputs; pins = r.pins; clock = (if is_plain kind && bytes_eq r.clock NIL then None else Some r.clock); kind = kind; init = r.init }
 
     -- its clock has a name, also where it is left out
     clock_named : (b : Bool) → bytes_eq r.clock NIL ≡ b → AllByRecursion IsNamed (option_to_list (if b then None else Some r.clock)) → IsNamed r.clock
     clock_named true e named = subst IsNamed (sym (same_word r.clock NIL e)) refl
     clock_named false e named = named.0
 
-    kind_tells : (kind : RegisterKind) → FitsKind kind (register_as kind) → r.init ≤ 3 → AllByRecursion IsNamed (r.inputs ++ map (λ (o : Word × Bool). o.0) r.outputs ++ option_to_list (register_as kind).clock) → KindIsOf library r.init kind
+    kind_tells : (kind : RegisterKind) → FitsKind kind (register_as kind) → r.init ≤ 3 → AllByRecursion IsNamed (read_nets r ++ map (λ (o : Word × Bool). o.0) r.outputs ++ option_to_list (register_as kind).clock) → KindIsOf library r.init kind
         → Tells library (statement_line (kind_statement r kind) ∷ []) (Register (register_as kind) ∷ [])
     kind_tells Plain fits small named line =
-        let front = each_front IsNamed (r.inputs ++ map (λ (o : Word × Bool). o.0) r.outputs) (option_to_list (register_as Plain).clock) named in
-        plain_tells r.inputs r.outputs r.pins r.clock r.init fits.0 fits.1 fits.2 (each_front IsNamed r.inputs (map (λ (o : Word × Bool). o.0) r.outputs) front) (each_back IsNamed r.inputs (map (λ (o : Word × Bool). o.0) r.outputs) front)
-        (clock_named (bytes_eq r.clock NIL) refl (each_back IsNamed (r.inputs ++ map (λ (o : Word × Bool). o.0) r.outputs) (option_to_list (register_as Plain).clock) named)) small
+        let front = each_front IsNamed (read_nets r ++ map (λ (o : Word × Bool). o.0) r.outputs) (option_to_list (register_as Plain).clock) named in
+        plain_tells r.inputs r.controls r.outputs r.pins r.clock r.init fits.0 fits.1 fits.2 fits.3 (each_front IsNamed r.inputs r.controls (each_front IsNamed (read_nets r) (map (λ (o : Word × Bool). o.0) r.outputs) front)) (each_back IsNamed (read_nets r) (map (λ (o : Word × Bool). o.0) r.outputs) front)
+        (clock_named (bytes_eq r.clock NIL) refl (each_back IsNamed (read_nets r ++ map (λ (o : Word × Bool). o.0) r.outputs) (option_to_list (register_as Plain).clock) named)) small
     kind_tells (Flop cell) fits small named line =
-        let front = each_front IsNamed (r.inputs ++ map (λ (o : Word × Bool). o.0) r.outputs) (r.clock ∷ []) named in
-        let ins = each_front IsNamed r.inputs (map (λ (o : Word × Bool). o.0) r.outputs) front in
-        let outs = each_back IsNamed r.inputs (map (λ (o : Word × Bool). o.0) r.outputs) front in
-        let clk = (each_back IsNamed (r.inputs ++ map (λ (o : Word × Bool). o.0) r.outputs) (r.clock ∷ []) named).0 in
+        let front = each_front IsNamed (read_nets r ++ map (λ (o : Word × Bool). o.0) r.outputs) (r.clock ∷ []) named in
+        let read = each_front IsNamed (read_nets r) (map (λ (o : Word × Bool). o.0) r.outputs) front in
+        let outs = each_back IsNamed (read_nets r) (map (λ (o : Word × Bool). o.0) r.outputs) front in
+        let clk = (each_back IsNamed (read_nets r ++ map (λ (o : Word × Bool). o.0) r.outputs) (r.clock ∷ []) named).0 in
         let own = names cell fits.0 in
-        gate_tells library cell (flop_nets 0 cell.pins r.inputs r.clock (with_places r.outputs r.pins)) (Register (register_as (Flop cell))) fits.0 own.0 own.1
-        (flop_named 0 cell.pins r.inputs r.clock (with_places r.outputs r.pins) ins clk (shown_named r.outputs r.pins outs))
+        gate_tells library cell (flop_nets 0 cell.pins r.inputs r.controls r.clock (with_places r.outputs r.pins)) (Register (register_as (Flop cell))) fits.0 own.0 own.1
+        (flop_named 0 cell.pins r.inputs r.controls r.clock (with_places r.outputs r.pins) (each_front IsNamed r.inputs r.controls read) (each_back IsNamed r.inputs r.controls read) clk (shown_named r.outputs r.pins outs))
         (flop_placed library (register_as (Flop cell)) cell r.clock refl refl fits named line)
 
     register_tells : IsPart (register_part is_on_nil r) → IsLine library (register_part is_on_nil r) → Tells library (statement_line (register_statement r) ∷ []) (register_part is_on_nil r ∷ [])

@@ -129,7 +129,7 @@ module _ (library : List CellData) (cells : AllByRecursion IsCell library) where
   statement_lines (Latch input output clock init) cover parts made fits is =
       lines_as (Register (latch_register input output clock init) ∷ []) parts
       (record {
-        each = (record { named = (made.0, (made.1, made.2)); fits = record { kind = (refl, refl, refl); pins = refl; init = made.4 } }, tt);
+        each = (record { named = (made.0, (made.1, made.2)); fits = record { kind = (refl, refl, refl, refl); pins = refl; init = made.4 } }, tt);
         lines = ((tt, λ plain. made.3), tt);
       }) is
   statement_lines (Gate cell words) cover parts made fits is = gate_lines cell words parts is

@@ -79,7 +79,7 @@ plain_statement inputs outputs clock init = Latch (first inputs) (first (map (λ
 
 abbrev pub kind_statement : RegisterCell NetName NetName → RegisterKind → Statement
 kind_statement r Plain = plain_statement r.inputs r.outputs r.clock r.init
-kind_statement r (Flop cell) = gate_statement cell (flop_nets 0 cell.pins r.inputs r.clock (with_places r.outputs r.pins))
+kind_statement r (Flop cell) = gate_statement cell (flop_nets 0 cell.pins r.inputs r.controls r.clock (with_places r.outputs r.pins))
 
 abbrev pub register_statement : RegisterCell NetName NetName → Statement
 register_statement r = kind_statement r r.kind

@@ -79,7 +79,7 @@ rows_behind statement (row ∷ rows) = Err (faults.BadLine row.number)
 -- a register of a `.latch` line
 abbrev pub latch_register : NetName → NetName → Option NetName → ℕ → RegisterCell NetName (Option NetName)
 latch_register input output clock init =
-    record { inputs = input ∷ []; outputs = (output, false) ∷ []; pins = 0 ∷ []; clock = clock; kind = Plain; init = init }
+    record { inputs = input ∷ []; controls = []; outputs = (output, false) ∷ []; pins = 0 ∷ []; clock = clock; kind = Plain; init = init }
 
 -- the parts that a statement says with the cells of a library, a `.names` line with this cover
 abbrev pub said_by : List CellData → CoverData → Statement → Result (List Part) LineFault

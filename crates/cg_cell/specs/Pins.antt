@@ -1,7 +1,7 @@
 -- Pins of cells.
 use Rattle.std.specs.Prelude.{ℕ, List, Bool, true, false}
 use Rattle.cg_cell.specs.declared.cell.Role.{Role}
-use Rattle.cg_cell.specs.declared.cell.Role.TheVariants.{Data, Clock, Enable, Test, Output, State, StateBar}
+use Rattle.cg_cell.specs.declared.cell.Role.TheVariants.{Data, Control, DataControl, Clock, Enable, Test, Output, State, StateBar}
 
 -- a pin: its name, and what it is for
 pub record PinData : Type 0 where
@@ -10,7 +10,11 @@ pub record PinData : Type 0 where
 
 -- an input of the function
 abbrev pub is_data : PinData → Bool
-is_data pin = elim pin.role [ Data ↦ true | _ ↦ false ]
+is_data pin = elim pin.role [ Data ↦ true | DataControl ↦ true | _ ↦ false ]
+
+-- an input of the control of a register: one that its clear or its preset names
+abbrev pub is_control : PinData → Bool
+is_control pin = elim pin.role [ Control ↦ true | DataControl ↦ true | _ ↦ false ]
 
 -- the clock
 abbrev pub is_clock : PinData → Bool

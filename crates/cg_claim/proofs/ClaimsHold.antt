@@ -1,7 +1,7 @@
 -- Each claim holds exactly where its question is never violated.
 use Rattle.std.proofs.Common.{◌≡◌, ℕ, ◌<◌, Bool, true, false, not, ◌&&◌, if◌then◌else◌, List, [], ◌∷◌, length, slice_get}
 use Rattle.std.proofs.Common.{Option, None, Some, refl, sym, ◌∙◌, ap, subst, arith, inl, inr}
-use Rattle.std.proofs.lemmas.Bool.{both_ways}
+use Rattle.std.proofs.lemmas.Bool.{and_parts, both_ways}
 use Rattle.std.proofs.lemmas.Option.{slice_get_past, slice_get-get_or}
 use Rattle.cg_cell.specs.Gates.{exclusive_or}
 use Rattle.cg_netlist.specs.Circuit.{RegisterCell}
@@ -9,8 +9,10 @@ use Rattle.cg_net.specs.NetSets.{is_in}
 use Rattle.cg_netlist.specs.Moment.{bit}
 use Rattle.cg_netlist.proofs.Values.{same_places}
 use Rattle.cg_machine.specs.Claims.{CanIdle, EqualOutside, Follows, Hold, Joined, Literal, Next as NextTarget, Shown, Stable}
-use Rattle.cg_machine.specs.Claims.{Target, Unseen, any_at, followed, followed_bit, literal_bit, mixed, target_bit}
+use Rattle.cg_machine.specs.Claims.{Target, Unseen, any_at, followed, followed_bit, is_followed, lasting_enable, literal_bit, mixed}
+use Rattle.cg_machine.specs.Claims.{target_bit}
 use Rattle.cg_machine.specs.Machine.{IsState, MachineData, each_register, enable_of, load, next, next_of, step, values}
+use Rattle.cg_machine.proofs.Forcing.{lasting_off}
 use Rattle.cg_machine.proofs.Lists.{below_or}
 use Rattle.cg_machine.proofs.Bits.{bit_past, each_bit, each_get, length-each, same_bit, same_get}
 use Rattle.cg_claim.specs.Question.{hold_question, idle_question, stable_question, target_part, unseen_question}
@@ -62,12 +64,12 @@ module _ (m : MachineData) where
   pub followed_follows : (C : List ℕ) (s0 x0 free : List Bool) → IsState m s0 → Follows m C s0 x0 (followed m C s0 x0 free)
   followed_follows C s0 x0 free long = record {
     long = length-each m f;
-    takes = λ r among. elim (below_or (length m.circuit.registers) r) [
-      | inl inside ↦ each_get m f r inside ∙ (ap (λ b. Some (if b then next m nets s0 r else if load nets (enable_of m r) then bit free r else bit s0 r)) among ∙ sym (each_get m (next m nets s0) r inside))
+    takes = λ r among told. elim (below_or (length m.circuit.registers) r) [
+      | inl inside ↦ each_get m f r inside ∙ (ap (λ b. Some (if b then next m nets s0 r else if load nets (lasting_enable m r) then bit free r else bit s0 r)) (ap (λ b. b && is_followed m r) among ∙ told) ∙ sym (each_get m (next m nets s0) r inside))
       | inr past ↦ slice_get_past (each_register m f) r (omega (arith, length-each m f, past)) ∙ sym (slice_get_past (each_register m (next m nets s0)) r (omega (arith, length-each m (next m nets s0), past)))
     ];
     keeps = λ r unloaded. elim (below_or (length m.circuit.registers) r) [
-      | inl inside ↦ each_get m f r inside ∙ (ap Some (kept r unloaded (is_in C r)) ∙ sym (slice_get-get_or s0 r false (omega (arith, long, inside))))
+      | inl inside ↦ each_get m f r inside ∙ (ap Some (kept r unloaded (is_in C r && is_followed m r)) ∙ sym (slice_get-get_or s0 r false (omega (arith, long, inside))))
       | inr past ↦ slice_get_past (each_register m f) r (omega (arith, length-each m f, past)) ∙ sym (slice_get_past s0 r (omega (arith, long, past)))
     ];
   }
@@ -82,9 +84,9 @@ module _ (m : MachineData) where
       not_loaded None e b off = refl
       not_loaded (Some cell) e b off = rw off refl
 
-      kept : (r : ℕ) → load (values m s0 x0) (enable_of m r) ≡ false → (b : Bool)
-          → (if b then next m (values m s0 x0) s0 r else if load (values m s0 x0) (enable_of m r) then bit free r else bit s0 r) ≡ bit s0 r
-      kept r off true = not_loaded (slice_get m.circuit.registers r) (enable_of m r) (bit s0 r) off
+      kept : (r : ℕ) → load (values m s0 x0) (lasting_enable m r) ≡ false → (b : Bool)
+          → (if b then next m (values m s0 x0) s0 r else if load (values m s0 x0) (lasting_enable m r) then bit free r else bit s0 r) ≡ bit s0 r
+      kept r off true = not_loaded (slice_get m.circuit.registers r) (enable_of m r) (bit s0 r) (lasting_off m (values m s0 x0) r off).1
       kept r off false = ap (λ b. if b then bit free r else bit s0 r) off
 
   pub follows_followed : (C : List ℕ) (s0 x0 s1 : List Bool) → Follows m C s0 x0 s1 → followed m C s0 x0 s1 ≡ s1
@@ -96,18 +98,19 @@ module _ (m : MachineData) where
       f : ℕ → Bool
       f = followed_bit m C (values m s0 x0) s0 s1
 
-      choose : (r : ℕ) → r < length m.circuit.registers → (b : Bool) → is_in C r ≡ b
-          → (if b then next m (values m s0 x0) s0 r else if load (values m s0 x0) (enable_of m r) then bit s1 r else bit s0 r) ≡ bit s1 r
+      choose : (r : ℕ) → r < length m.circuit.registers → (b : Bool) → (is_in C r && is_followed m r) ≡ b
+          → (if b then next m (values m s0 x0) s0 r else if load (values m s0 x0) (lasting_enable m r) then bit s1 r else bit s0 r) ≡ bit s1 r
       choose r below true is =
-          sym (same_bit s1 (step m s0 x0) r (follows.takes r is) ∙ each_bit m (next m (values m s0 x0) s0) r below)
-      choose r below false is = loaded (load (values m s0 x0) (enable_of m r)) refl
+          let both = and_parts (is_in C r) (is_followed m r) is in
+          sym (same_bit s1 (step m s0 x0) r (follows.takes r both.0 both.1) ∙ each_bit m (next m (values m s0 x0) s0) r below)
+      choose r below false is = loaded (load (values m s0 x0) (lasting_enable m r)) refl
         where
-          loaded : (b : Bool) → load (values m s0 x0) (enable_of m r) ≡ b → (if b then bit s1 r else bit s0 r) ≡ bit s1 r
+          loaded : (b : Bool) → load (values m s0 x0) (lasting_enable m r) ≡ b → (if b then bit s1 r else bit s0 r) ≡ bit s1 r
           loaded true on = refl
           loaded false off = sym (same_bit s1 s0 r (follows.keeps r off))
 
       at : (r : ℕ) → r < length m.circuit.registers → bit (followed m C s0 x0 s1) r ≡ bit s1 r
-      at r below = each_bit m (followed_bit m C (values m s0 x0) s0 s1) r below ∙ choose r below (is_in C r) refl
+      at r below = each_bit m (followed_bit m C (values m s0 x0) s0 s1) r below ∙ choose r below (is_in C r && is_followed m r) refl
 
   pub stable_never : (E : List Literal) (r : ℕ) → Stable m E r → IsNeverViolated m (stable_question E r)
   stable_never E r stable w free =

@@ -22,7 +22,7 @@ use Rattle.cg_claim.specs.Leaves.{Leaf, is_reached, is_source}
 use Rattle.cg_claim.specs.Question.{Copy, Before, After, Changed, CopyPart, Next, Side, Question}
 use Rattle.cg_claim.specs.Reach.{after_nets, after_states, before_nets, before_states, changed_nets, changed_states, enable_nets}
 use Rattle.cg_claim.specs.Reach.{feeds, origin_asks, origin_nets, part_asks, part_nets, registers_of, sides_ask}
-use Rattle.cg_claim.specs.Reach.{sides_nets}
+use Rattle.cg_claim.specs.Reach.{sides_nets, takes_next}
 use Rattle.cg_netlist_cone.specs.Cone.{cone_of}
 use Rattle.cg_claim.specs.Violates.{Free, inputs_of, nets_at, side_bit, sides_differ, state_of, violates, IsFree, CopyPartFits}
 use Rattle.cg_claim.specs.Violates.{SidesFit}
@@ -123,7 +123,7 @@ module _ (d : Values) (bits : List Bool) (fit : IsFit d bits) (m : MachineData) 
         (λ asks. leaf_same u all Before (RegisterOf r) (is_register r below)
         (or_right (feeds m (before_nets m q) r) (sides_ask m Before q.sides r || (after_states m q r && origin_asks m q r))
         (or_right (sides_ask m Before q.sides r) (after_states m q r && origin_asks m q r) (and_from (after_states m q r) (origin_asks m q r) passes asks))))
-        (λ free'. record { valid = leaf_valid u all After (RegisterOf r); bit = leaf_same u all After (RegisterOf r) (is_register r below) (and_from (after_states m q r) (not (is_in q.follows r)) passes (not_from_false (is_in q.follows r) free')) }))
+        (λ free'. record { valid = leaf_valid u all After (RegisterOf r); bit = leaf_same u all After (RegisterOf r) (is_register r below) (and_from (after_states m q r) (not (takes_next m q r)) passes (not_from_false (takes_next m q r) free')) }))
         (sym (s1_bit r below)))
         (λ r. (fit.zero.has t.domain (sound_at t.domain before.keeps)).valid)
         (λ r passes out.

@@ -33,3 +33,4 @@ pub mod SameForm
 pub mod StagesDone
 pub mod Tried
 pub mod WholeLists
+pub mod Loose

@@ -13,7 +13,7 @@ use Rattle.cg_claim.specs.Build.{Values, after_state_table, after_table, before_
 use Rattle.cg_claim.specs.Build.{lay_states, leaf_value, reached_cells, start_nets}
 use Rattle.cg_claim.specs.Leaves.{Leaf, is_reached, leaves_at, leaves_of, sources}
 use Rattle.cg_claim.specs.Question.{Before, After, Changed, Question, hold_question, idle_question}
-use Rattle.cg_claim.specs.Reach.{after_nets, after_states, changed_nets, changed_states, feeds, registers_of}
+use Rattle.cg_claim.specs.Reach.{after_nets, after_states, changed_nets, changed_states, feeds, registers_of, takes_next}
 use Rattle.cg_netlist_cone.specs.Cone.{cone_of}
 use Rattle.cg_claim.specs.declared.leaf.LeafSource.{LeafSource}
 use Rattle.cg_claim.specs.declared.leaf.LeafSource.TheVariants.{Input as InputOf, Register as RegisterOf}
@@ -70,7 +70,7 @@ module _ (m : MachineData) (q : Question) (one : IsOneCopy m q) where
   -- the leaves are of the first copy
   no_after : (source : LeafSource) → is_reached m q After source ≡ false
   no_after (InputOf y) = or_from (is_in (after_nets m q) y) (is_in (changed_nets m q) y) (ap (λ l. is_in l y) one.after) (ap (λ l. is_in l y) one.changed)
-  no_after (RegisterOf r) = and_off (after_states m q r) (not (is_in q.follows r)) (one.states r)
+  no_after (RegisterOf r) = and_off (after_states m q r) (not (takes_next m q r)) (one.states r)
 
   no_changed : (source : LeafSource) → is_reached m q Changed source ≡ false
   no_changed (InputOf y) = refl

@@ -16,7 +16,7 @@ use Rattle.cg_net.specs.NetSets.{is_in}
 use Rattle.cg_netlist.proofs.Given.{from_option}
 use Rattle.cg_net.proofs.Members.{is_in_left, is_in_right}
 use Rattle.cg_netlist.proofs.Values.{element_at, map_same}
-use Rattle.cg_machine.specs.Claims.{Literal}
+use Rattle.cg_machine.specs.Claims.{Literal, lasting_enable}
 use Rattle.cg_machine.specs.Machine.{IsMachine, MachineData, enable_of, walk_of}
 use Rattle.cg_claim.specs.Build.{Table, Values, cell_run, enable_run, from_state, function_term, given, join_run, lay, lay_states}
 use Rattle.cg_claim.specs.Build.{literal_of, mux_run, next_run, next_run_of, part_run, put_run, reached_cells, shown_by, start_nets}
@@ -24,7 +24,7 @@ use Rattle.cg_claim.specs.Build.{state_run}
 use Rattle.cg_claim.specs.Question.{CopyPart, Net, Next, State, Enable, Question}
 use Rattle.cg_netlist_cone.specs.Cone.{cone_of}
 use Rattle.cg_claim.specs.Reach.{feeds, next_asks_own, next_nets, origin_asks, origin_nets, part_asks, part_nets, reads_own}
-use Rattle.cg_claim.specs.Reach.{register_term}
+use Rattle.cg_claim.specs.Reach.{register_term, takes_next}
 use Rattle.cg_claim.specs.Tables.{SameOn}
 use Rattle.cg_claim.specs.Violates.{CopyPartFits}
 use Rattle.cg_netlist_cone.proofs.Cones.{AreClosed, cone_closed}
@@ -177,22 +177,22 @@ module _ (d : Values) where
 
   -- and the state after the first cycle reads what it comes from
   pub state_same : (m : MachineData) (q : Question) (nets nets' states states' free free' : ℕ → ℕ) (r : ℕ) (s : Seen) → r < length m.circuit.registers → ((y : ℕ) → is_in (origin_nets m q r) y ≡ true → nets y ≡ nets' y)
-      → (origin_asks m q r ≡ true → states r ≡ states' r) → (is_in q.follows r ≡ false → free r ≡ free' r) → state_run d m q nets states free r s ≡ state_run d m q nets' states' free' r s
-  state_same m q nets nets' states states' free free' r s below same own other = go (is_in q.follows r) same own other
+      → (origin_asks m q r ≡ true → states r ≡ states' r) → (takes_next m q r ≡ false → free r ≡ free' r) → state_run d m q nets states free r s ≡ state_run d m q nets' states' free' r s
+  state_same m q nets nets' states states' free free' r s below same own other = go (takes_next m q r) same own other
     where
-      go : (b : Bool) → ((y : ℕ) → is_in (if b then next_nets m r else option_to_list (enable_of m r)) y ≡ true → nets y ≡ nets' y)
-          → ((if b then next_asks_own m r else is_some (enable_of m r)) ≡ true → states r ≡ states' r) → (b ≡ false → free r ≡ free' r)
-          → (if b then next_run d m nets states r s else mux_run d (enable_of m r) nets (free r) (states r) s) ≡ (if b then next_run d m nets' states' r s else mux_run d (enable_of m r) nets' (free' r) (states' r) s)
+      go : (b : Bool) → ((y : ℕ) → is_in (if b then next_nets m r else option_to_list (lasting_enable m r)) y ≡ true → nets y ≡ nets' y)
+          → ((if b then next_asks_own m r else is_some (lasting_enable m r)) ≡ true → states r ≡ states' r) → (b ≡ false → free r ≡ free' r)
+          → (if b then next_run d m nets states r s else mux_run d (lasting_enable m r) nets (free r) (states r) s) ≡ (if b then next_run d m nets' states' r s else mux_run d (lasting_enable m r) nets' (free' r) (states' r) s)
       go true reads state out = next_same m nets nets' states states' r s below reads state
       go false reads state out =
-          ap (λ a. mux_run d (enable_of m r) nets a (states r) s) (out refl)
-          ∙ mux_alike (enable_of m r) nets nets' (free' r) (states r) (states' r) s (λ e on. reads e (from_option (enable_of m r) e on)) state
+          ap (λ a. mux_run d (lasting_enable m r) nets a (states r) s) (out refl)
+          ∙ mux_alike (lasting_enable m r) nets nets' (free' r) (states r) (states' r) s (λ e on. reads e (from_option (lasting_enable m r) e on)) state
 
   -- states that are laid are alike where they were, and at the registers that were laid
   pub lay_states_same : (m : MachineData) (q : Question) (nets nets' states states' free free' : ℕ → ℕ) (rs : List ℕ) (done : ℕ → Bool) (t u : Table)
       → ((r : ℕ) → is_in rs r ≡ true → r < length m.circuit.registers)
       → ((r : ℕ) → is_in rs r ≡ true → (y : ℕ) → is_in (origin_nets m q r) y ≡ true → nets y ≡ nets' y)
-      → ((r : ℕ) → is_in rs r ≡ true → origin_asks m q r ≡ true → states r ≡ states' r) → ((r : ℕ) → is_in rs r ≡ true → is_in q.follows r ≡ false → free r ≡ free' r)
+      → ((r : ℕ) → is_in rs r ≡ true → origin_asks m q r ≡ true → states r ≡ states' r) → ((r : ℕ) → is_in rs r ≡ true → takes_next m q r ≡ false → free r ≡ free' r)
       → SameOn done t u → SameOn (λ x. done x || is_in rs x) (lay_states d m q nets states free rs t) (lay_states d m q nets' states' free' rs u)
   lay_states_same m q nets nets' states states' free free' [] done t u within reads own other same = record { domain = same.domain; at = λ x passes. same.at x (last (done x) passes) }
     where

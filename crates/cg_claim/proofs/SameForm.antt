@@ -1,15 +1,15 @@
 -- The claims of stages are instances of the common form: the same leaves, the same list and the same goal.
 use Rattle.std.proofs.Common.{◌≡◌, ℕ, suc, Bool, true, false, not, ◌&&◌, ◌||◌, if◌then◌else◌, List, [], ◌∷◌, ◌++◌, map, length, nat_eq}
-use Rattle.std.proofs.Common.{slice_get, Option, None, Some, option_map, refl, sym, ◌∙◌, ap}
+use Rattle.std.proofs.Common.{slice_get, Option, None, Some, is_some, option_map, refl, sym, ◌∙◌, ap}
 use Rattle.std.specs.List.{filter, flat_map, list_any}
-use Rattle.std.specs.Option.{option_map_or}
-use Rattle.cg_cell.specs.Build.{Run, build_or, chain}
+use Rattle.std.specs.Option.{option_map_or, option_to_list}
+use Rattle.cg_cell.specs.Build.{Run, build_or, chain, plain}
 use Rattle.cg_cell.specs.Domain.{Seen}
 use Rattle.cg_net.specs.NetSets.{is_in}
 use Rattle.cg_netlist.specs.Circuit.{LogicCell, RegisterCell, shown_nets}
 use Rattle.cg_netlist_cone.specs.Cone.{cone_of}
 use Rattle.cg_machine.specs.Claims.{Literal, Target}
-use Rattle.cg_machine.specs.Machine.{MachineData, walk_of}
+use Rattle.cg_machine.specs.Machine.{MachineData, enable_of, has_controls, walk_of}
 use Rattle.cg_claim.specs.Build.{Copies, Table, Values, aig_values, lay, leaf_list, literal_of, put_run, reached_cells, start_nets}
 use Rattle.cg_claim.specs.Build as S
 use Rattle.cg_claim.specs.Leaves.{Leaf, shown_leaf, copy_number, same_source, sources}
@@ -24,6 +24,7 @@ use Rattle.cg_claim.specs.form.Build as F
 use Rattle.cg_claim.specs.form.Leaves as FL
 use Rattle.cg_claim.specs.form.Question as FQ
 use Rattle.cg_claim.specs.form.Reach as FR
+use Rattle.cg_claim.proofs.Loose.{choose, given_alike}
 
 -- functions are the same that give the same
 pub fun_ext : {A B : Type 0} {f g : A → B} → ((x : A) → f x ≡ g x) → f ≡ g
@@ -161,7 +162,21 @@ module _ (m : MachineData) (E : List Literal) (Q G : List ℕ) (sides : Side × 
   q1 = record { enables = E; follows = Q; changes = G; sides = Some sides }
 
   abbrev pub f1 : FQ.Question
-  f1 = record { condition = FQ.of_literals E; after = 1; loose = λ _. false; follows = is_in Q; cut = None; ends = ends }
+  f1 = record { condition = FQ.of_literals E; after = 1; loose = FQ.is_loose m Q; follows = is_in Q; cut = None; ends = ends }
+
+  -- the same is asked of the cycle before, and the same is given
+  same_origins : SR.origin_nets m q1 ≡ FR.origin_nets m f1
+  same_origins = fun_ext (λ r. choose (has_controls m r) (is_in Q r) (enable_of m r) (next_nets m r) [] option_to_list refl)
+
+  same_asks : SR.origin_asks m q1 ≡ FR.origin_asks m f1
+  same_asks = fun_ext (λ r. choose (has_controls m r) (is_in Q r) (enable_of m r) (SR.next_asks_own m r) false is_some refl)
+
+  same_given : (r : ℕ) → not (SR.takes_next m q1 r) ≡ FL.is_given f1 r
+  same_given r = given_alike (has_controls m r) (is_in Q r) (enable_of m r)
+
+  same_run : (d : Values) (c : F.Cycle) (given : ℕ → ℕ) (r : ℕ) (s : Seen) → F.state_run d m f1 given c r s ≡ S.state_run d m q1 c.nets c.states given r s
+  same_run d c given r s =
+      sym (choose (has_controls m r) (is_in Q r) (enable_of m r) (S.next_run d m c.nets c.states r s) (plain (given r) s) (λ o. S.mux_run d o c.nets (given r) (c.states r) s) refl)
 
   -- what differs from one kind of end to the other
   pub record Alike : Type 0 where
@@ -178,12 +193,14 @@ module _ (m : MachineData) (E : List Literal) (Q G : List ℕ) (sides : Side × 
         alike.first
         ∙ ap (λ nets. cone_of (walk_of m) (nets ++ flat_map (SR.origin_nets m q1) (filter (SR.after_states m q1) (registers_of m)))) (sym (literal_nets E))
         ∙ ap (λ (states : ℕ → Bool). cone_of (walk_of m) (FQ.condition_nets (FQ.of_literals E) ++ flat_map (SR.origin_nets m q1) (filter states (registers_of m)))) alike.last_states
+        ∙ ap (λ (origins : ℕ → List ℕ). cone_of (walk_of m) (FQ.condition_nets (FQ.of_literals E) ++ flat_map origins (filter (FR.states_of m f1 1) (registers_of m)))) same_origins
 
     states0 : SR.before_states m q1 ≡ FR.states_of m f1 0
     states0 =
         alike.first_states
         ∙ ap {B = ℕ → Bool} (λ nets r. feeds m nets r || (SR.after_states m q1 r && SR.origin_asks m q1 r)) nets0
         ∙ ap {B = ℕ → Bool} (λ (states : ℕ → Bool) r. feeds m (FR.nets_of m f1 0) r || (states r && SR.origin_asks m q1 r)) alike.last_states
+        ∙ ap {B = ℕ → Bool} (λ (asks : ℕ → Bool) r. feeds m (FR.nets_of m f1 0) r || (FR.states_of m f1 1 r && asks r)) same_asks
 
     leaf0 : (source : LeafSource) → SL.is_reached m q1 Before source ≡ FL.is_leaf m f1 0 source
     leaf0 (Input y) = ap (λ nets. is_in nets y) nets0 ∙ ap (λ b. b || is_in (FR.nets_of m f1 0) y) (sym (and_none (FL.other_reads m f1 ends y)))
@@ -195,8 +212,9 @@ module _ (m : MachineData) (E : List Literal) (Q G : List ℕ) (sides : Side × 
         ∙ ap (λ nets. is_in (SR.changed_nets m q1) y || is_in nets y) alike.last
         ∙ ap (λ b. b || is_in (FR.nets_of m f1 1) y) (sym (alike.reads y) ∙ sym (and_all (FL.other_reads m f1 ends y)))
     leaf1 (Register r) =
-        and_swap (SR.after_states m q1 r) (not (is_in Q r))
-        ∙ ap (λ (states : ℕ → Bool). not (is_in Q r) && states r) alike.last_states
+        and_swap (SR.after_states m q1 r) (not (SR.takes_next m q1 r))
+        ∙ ap (λ (states : ℕ → Bool). not (SR.takes_next m q1 r) && states r) alike.last_states
+        ∙ ap (λ b. b && FR.states_of m f1 1 r) (same_given r)
 
     pub leaves1 : FL.leaves_of m f1 ≡ map shown_leaf (SL.leaves_of m q1)
     leaves1 =
@@ -232,7 +250,7 @@ module _ (m : MachineData) (E : List Literal) (Q G : List ℕ) (sides : Side × 
       states1 =
           ap (λ (states : ℕ → Bool). F.lay_states (F.state_run d m f1 (λ r. F.leaf_value d (map shown_leaf leaves) 1 (Register r)) c0) (filter states (registers_of m)) (record { domain = t0.domain; at = λ r. 0 })) (sym alike.last_states)
           ∙ ap (λ (value : LeafSource → ℕ). F.lay_states (F.state_run d m f1 (λ r. value (Register r)) c0) (filter (SR.after_states m q1) (registers_of m)) (record { domain = t0.domain; at = λ r. 0 })) (same_value d leaves After)
-          ∙ same_lay d m q1 f1 c0 (λ r. S.leaf_value d leaves After (Register r)) (filter (SR.after_states m q1) (registers_of m)) (record { domain = t0.domain; at = λ r. 0 }) (λ r s. refl)
+          ∙ same_lay d m q1 f1 c0 (λ r. S.leaf_value d leaves After (Register r)) (filter (SR.after_states m q1) (registers_of m)) (record { domain = t0.domain; at = λ r. 0 }) (same_run d c0 (λ r. S.leaf_value d leaves After (Register r)))
 
       cycle1 : F.cycle_at d m f1 (map shown_leaf leaves) s 1 ≡ c1
       cycle1 =
@@ -249,7 +267,7 @@ module _ (m : MachineData) (E : List Literal) (r : ℕ) where
   none_changed : SR.changed_states m (stable_question E r) ≡ (λ _. false)
   none_changed = fun_ext (λ k. or_none (feeds m (cone_of (walk_of m) []) k)) ∙ none_fed m
 
-  stable_last : SR.after_nets m (stable_question E r) ≡ FR.nets_of m (FQ.stable_form E r) 1
+  stable_last : SR.after_nets m (stable_question E r) ≡ FR.nets_of m (FQ.stable_form m E r) 1
   stable_last = ap (cone_of (walk_of m)) (nil_right (next_nets m r))
 
   stable_alike : Alike m E (r ∷ []) [] stable_sides (FQ.Changes (Some r))
@@ -259,7 +277,7 @@ module _ (m : MachineData) (E : List Literal) (r : ℕ) where
     last = stable_last;
     last_states = fun_ext (λ k.
         ap (λ nets. feeds m nets k || (SR.sides_ask m After (Some stable_sides) k || (SR.changed_states m (stable_question E r) k && true))) stable_last
-        ∙ ap (λ b. feeds m (FR.nets_of m (FQ.stable_form E r) 1) k || b)
+        ∙ ap (λ b. feeds m (FR.nets_of m (FQ.stable_form m E r) 1) k || b)
         (own_once (nat_eq k r) (SR.next_asks_own m r) (SR.changed_states m (stable_question E r) k && true)
         (and_all (SR.changed_states m (stable_question E r) k) ∙ ap (λ states. states k) none_changed)));
     reads = λ y. sym (ap (λ nets. is_in nets y) (no_cone (walk_of m)));
@@ -273,7 +291,7 @@ module _ (m : MachineData) (E : List Literal) (r : ℕ) where
       unchanged (Input y) = refl
       unchanged (Register k) = and_none (SR.changed_states m (stable_question E r) k)
 
-  pub same_stable_leaves : FL.leaves_of m (FQ.stable_form E r) ≡ map shown_leaf (SL.leaves_of m (stable_question E r))
+  pub same_stable_leaves : FL.leaves_of m (FQ.stable_form m E r) ≡ map shown_leaf (SL.leaves_of m (stable_question E r))
   same_stable_leaves = leaves1 m E (r ∷ []) [] stable_sides (FQ.Changes (Some r)) stable_alike
 
 -- the claim of Unseen
@@ -284,13 +302,13 @@ module _ (m : MachineData) (E : List Literal) (Q G : List ℕ) (t : Target) wher
   unseen_parts : SR.part_nets m (SR.enable_nets (unseen_question E Q G t)) (target_part t) ≡ SR.part_nets m (FQ.condition_nets (FQ.of_literals E)) (target_part t)
   unseen_parts = ap (λ nets. SR.part_nets m nets (target_part t)) (sym (literal_nets E))
 
-  unseen_other : SR.changed_nets m (unseen_question E Q G t) ≡ FR.other_nets m (FQ.unseen_form E Q G t)
+  unseen_other : SR.changed_nets m (unseen_question E Q G t) ≡ FR.other_nets m (FQ.unseen_form m E Q G t)
   unseen_other = ap (cone_of (walk_of m)) unseen_parts
 
-  unseen_others : SR.changed_states m (unseen_question E Q G t) ≡ FR.other_states m (FQ.unseen_form E Q G t)
+  unseen_others : SR.changed_states m (unseen_question E Q G t) ≡ FR.other_states m (FQ.unseen_form m E Q G t)
   unseen_others = ap {B = ℕ → Bool} (λ nets k. feeds m nets k || SR.part_asks m (target_part t) k) unseen_other
 
-  unseen_last : SR.after_nets m (unseen_question E Q G t) ≡ FR.nets_of m (FQ.unseen_form E Q G t) 1
+  unseen_last : SR.after_nets m (unseen_question E Q G t) ≡ FR.nets_of m (FQ.unseen_form m E Q G t) 1
   unseen_last = ap (cone_of (walk_of m)) (nil_right (SR.part_nets m (SR.enable_nets (unseen_question E Q G t)) (target_part t)) ∙ unseen_parts)
 
   unseen_alike : Alike m E Q G unseen_sides (FQ.Shows (target_part t) G)
@@ -300,17 +318,17 @@ module _ (m : MachineData) (E : List Literal) (Q G : List ℕ) (t : Target) wher
     last = unseen_last;
     last_states = fun_ext (λ k.
         ap (λ nets. feeds m nets k || (SR.sides_ask m After (Some unseen_sides) k || (SR.changed_states m (unseen_question E Q G t) k && not (is_in G k)))) unseen_last
-        ∙ ap (λ b. feeds m (FR.nets_of m (FQ.unseen_form E Q G t) 1) k || (b || (SR.changed_states m (unseen_question E Q G t) k && not (is_in G k)))) (or_none (SR.part_asks m (target_part t) k))
-        ∙ ap (λ (states : ℕ → Bool). feeds m (FR.nets_of m (FQ.unseen_form E Q G t) 1) k || (SR.part_asks m (target_part t) k || (states k && not (is_in G k)))) unseen_others);
+        ∙ ap (λ b. feeds m (FR.nets_of m (FQ.unseen_form m E Q G t) 1) k || (b || (SR.changed_states m (unseen_question E Q G t) k && not (is_in G k)))) (or_none (SR.part_asks m (target_part t) k))
+        ∙ ap (λ (states : ℕ → Bool). feeds m (FR.nets_of m (FQ.unseen_form m E Q G t) 1) k || (SR.part_asks m (target_part t) k || (states k && not (is_in G k)))) unseen_others);
     reads = λ y. sym (ap (λ nets. is_in nets y) unseen_other);
-    other = λ leaves. sym (ap (λ ls. leaves ++ ls) (same_at m (unseen_question E Q G t) Changed (FL.is_other_leaf m (FQ.unseen_form E Q G t) G) unseen_leaf));
+    other = λ leaves. sym (ap (λ ls. leaves ++ ls) (same_at m (unseen_question E Q G t) Changed (FL.is_other_leaf m (FQ.unseen_form m E Q G t) G) unseen_leaf));
   }
     where
-      unseen_leaf : (source : LeafSource) → SL.is_reached m (unseen_question E Q G t) Changed source ≡ FL.is_other_leaf m (FQ.unseen_form E Q G t) G source
+      unseen_leaf : (source : LeafSource) → SL.is_reached m (unseen_question E Q G t) Changed source ≡ FL.is_other_leaf m (FQ.unseen_form m E Q G t) G source
       unseen_leaf (Input y) = refl
       unseen_leaf (Register k) = ap (λ (states : ℕ → Bool). states k && is_in G k) unseen_others
 
-  pub same_unseen_leaves : FL.leaves_of m (FQ.unseen_form E Q G t) ≡ map shown_leaf (SL.leaves_of m (unseen_question E Q G t))
+  pub same_unseen_leaves : FL.leaves_of m (FQ.unseen_form m E Q G t) ≡ map shown_leaf (SL.leaves_of m (unseen_question E Q G t))
   same_unseen_leaves = leaves1 m E Q G unseen_sides (FQ.Shows (target_part t) G) unseen_alike
 
 -- nothing is laid where nothing is reached
@@ -325,11 +343,11 @@ module _ (m : MachineData) (E : List Literal) (r : ℕ) where
   abbrev stable_at : Values → List Leaf → Seen → Copies
   stable_at d leaves s = S.copies d m (stable_question E r) leaves s
 
-  stable_run : (d : Values) (leaves : List Leaf) (s : Seen) → F.goal_run d m (FQ.stable_form E r) (map shown_leaf leaves)
-      (F.cycle_at d m (FQ.stable_form E r) (map shown_leaf leaves) s 0) (F.cycle_at d m (FQ.stable_form E r) (map shown_leaf leaves) s 1)
+  stable_run : (d : Values) (leaves : List Leaf) (s : Seen) → F.goal_run d m (FQ.stable_form m E r) (map shown_leaf leaves)
+      (F.cycle_at d m (FQ.stable_form m E r) (map shown_leaf leaves) s 0) (F.cycle_at d m (FQ.stable_form m E r) (map shown_leaf leaves) s 1)
       ≡ S.goal_run d m (stable_question E r) (stable_at d leaves s)
   stable_run d leaves s =
-      let f : FQ.Question = FQ.stable_form E r in
+      let f : FQ.Question = FQ.stable_form m E r in
       let ls : List ShownLeaf = map shown_leaf leaves in
       let sides : Side × Side = (record { copy = After; part = Next r }, record { copy = After; part = State r }) in
       let a : F.Cycle = c0 m E (r ∷ []) [] sides (FQ.Changes (Some r)) (stable_alike m E r) d leaves s in
@@ -342,9 +360,9 @@ module _ (m : MachineData) (E : List Literal) (r : ℕ) where
       (sym (no_laid d m (record { domain = b.domain; at = start_nets d m (λ y. S.leaf_value d leaves After (Input y)) (S.changed_state d (stable_question E r) leaves b.states) })))
 
   -- the list and the goal are the same, node for node
-  pub same_stable : F.claim_run m (FQ.stable_form E r) ≡ S.claim_run m (stable_question E r)
+  pub same_stable : F.claim_run m (FQ.stable_form m E r) ≡ S.claim_run m (stable_question E r)
   same_stable =
-      let f : FQ.Question = FQ.stable_form E r in
+      let f : FQ.Question = FQ.stable_form m E r in
       let leaves : List Leaf = SL.leaves_of m (stable_question E r) in
       ap (λ ls. F.goal_run aig_values m f ls (F.cycle_at aig_values m f ls (leaf_list (length ls)) 0) (F.cycle_at aig_values m f ls (leaf_list (length ls)) 1)) (same_stable_leaves m E r)
       ∙ stable_run aig_values leaves (leaf_list (length (map shown_leaf leaves)))
@@ -352,11 +370,11 @@ module _ (m : MachineData) (E : List Literal) (r : ℕ) where
 
 -- the goal of Unseen
 module _ (m : MachineData) (E : List Literal) (Q G : List ℕ) (t : Target) where
-  unseen_run : (d : Values) (leaves : List Leaf) (s : Seen) → F.goal_run d m (FQ.unseen_form E Q G t) (map shown_leaf leaves)
-      (F.cycle_at d m (FQ.unseen_form E Q G t) (map shown_leaf leaves) s 0) (F.cycle_at d m (FQ.unseen_form E Q G t) (map shown_leaf leaves) s 1)
+  unseen_run : (d : Values) (leaves : List Leaf) (s : Seen) → F.goal_run d m (FQ.unseen_form m E Q G t) (map shown_leaf leaves)
+      (F.cycle_at d m (FQ.unseen_form m E Q G t) (map shown_leaf leaves) s 0) (F.cycle_at d m (FQ.unseen_form m E Q G t) (map shown_leaf leaves) s 1)
       ≡ S.goal_run d m (unseen_question E Q G t) (S.copies d m (unseen_question E Q G t) leaves s)
   unseen_run d leaves s =
-      let f : FQ.Question = FQ.unseen_form E Q G t in
+      let f : FQ.Question = FQ.unseen_form m E Q G t in
       let q : Question = unseen_question E Q G t in
       let part : CopyPart = target_part t in
       let ls : List ShownLeaf = map shown_leaf leaves in
@@ -379,9 +397,9 @@ module _ (m : MachineData) (E : List Literal) (Q G : List ℕ) (t : Target) wher
       ap (λ x. chain x (λ p u. chain (F.part_run d m f o part u) (λ z w. F.differ_run d e p z w))) (same_part d m f E b part v refl)
       ∙ ap (chain (S.part_run d m E b.nets b.states part v)) (fun_ext (λ p. fun_ext (λ u. ap (λ x. chain x (λ z w. F.differ_run d e p z w)) (same_part d m f E o part u refl)))))))
 
-  pub same_unseen : F.claim_run m (FQ.unseen_form E Q G t) ≡ S.claim_run m (unseen_question E Q G t)
+  pub same_unseen : F.claim_run m (FQ.unseen_form m E Q G t) ≡ S.claim_run m (unseen_question E Q G t)
   same_unseen =
-      let f : FQ.Question = FQ.unseen_form E Q G t in
+      let f : FQ.Question = FQ.unseen_form m E Q G t in
       let leaves : List Leaf = SL.leaves_of m (unseen_question E Q G t) in
       ap (λ ls. F.goal_run aig_values m f ls (F.cycle_at aig_values m f ls (leaf_list (length ls)) 0) (F.cycle_at aig_values m f ls (leaf_list (length ls)) 1)) (same_unseen_leaves m E Q G t)
       ∙ unseen_run aig_values leaves (leaf_list (length (map shown_leaf leaves)))

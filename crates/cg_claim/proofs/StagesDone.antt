@@ -17,7 +17,7 @@ use Rattle.cg_claim.specs.Leaves.{Leaf}
 use Rattle.cg_claim.specs.Question.{Copy, Before, After, Changed, Question, Side}
 use Rattle.cg_claim.specs.Reach.{after_nets, after_states, before_nets, before_states, changed_nets, changed_states, enable_nets}
 use Rattle.cg_claim.specs.Reach.{feeds, origin_asks, origin_nets, part_asks, part_nets, registers_of, sides_ask}
-use Rattle.cg_claim.specs.Reach.{sides_nets}
+use Rattle.cg_claim.specs.Reach.{sides_nets, takes_next}
 use Rattle.cg_claim.specs.Tables.{SameOn}
 use Rattle.cg_claim.specs.Violates.{CopyPartFits, SidesFit}
 use Rattle.cg_claim.specs.inner.Copies.{nets_reached, states_reached}
@@ -46,7 +46,7 @@ module _ (d : Values) (m : MachineData) (good : IsMachine m) (q : Question) (fit
   -- the states after the first cycle, from its nets and states and from literals of the states that nothing is said of
   pub states_done : (t0 T0 u : Table) (states free : ℕ → ℕ) → SameOn (is_in (before_nets m q)) t0 T0 → u.domain ≡ t0.domain
       → ((r : ℕ) → after_states m q r ≡ true → origin_asks m q r ≡ true → states r ≡ leaf_value d leaves Before (RegisterOf r))
-      → ((r : ℕ) → after_states m q r ≡ true → is_in q.follows r ≡ false → free r ≡ leaf_value d leaves After (RegisterOf r))
+      → ((r : ℕ) → after_states m q r ≡ true → takes_next m q r ≡ false → free r ≡ leaf_value d leaves After (RegisterOf r))
       → SameOn (after_states m q) (lay_states d m q t0.at states free (filter (after_states m q) (registers_of m)) u) (after_state_table d m q leaves T0)
   states_done t0 T0 u states free same domain_is sts frees =
       let rs = filter (after_states m q) (registers_of m) in

@@ -10,7 +10,7 @@ use Rattle.cg_aig.specs.Aig.{aig_ops}
 use Rattle.cg_aig.proofs.RunsFit.{aig_growing}
 use Rattle.cg_netlist.specs.Circuit.{LogicCell, RegisterCell}
 use Rattle.cg_net.specs.NetSets.{is_in}
-use Rattle.cg_machine.specs.Claims.{Literal}
+use Rattle.cg_machine.specs.Claims.{Literal, lasting_enable}
 use Rattle.cg_machine.specs.Machine.{MachineData, enable_of}
 use Rattle.cg_claim.specs.Build.{Copies, Table, after_state_table, after_table, aig_values, before_table, cell_run, changed_state}
 use Rattle.cg_claim.specs.Build.{copies, enable_run, function_term, goal_of, goal_run, join_run, lay, lay_states, leaf_value}
@@ -19,7 +19,7 @@ use Rattle.cg_claim.specs.Build.{start_nets, state_run}
 use Rattle.cg_claim.specs.declared.leaf.LeafSource.TheVariants.{Input as InputOf, Register as RegisterOf}
 use Rattle.cg_claim.specs.Leaves.{Leaf}
 use Rattle.cg_claim.specs.Question.{Before, After, CopyPart, Net, Next, State, Enable, Question, Side}
-use Rattle.cg_claim.specs.Reach.{after_nets, after_states, changed_nets, register_term, registers_of}
+use Rattle.cg_claim.specs.Reach.{after_nets, after_states, changed_nets, register_term, registers_of, takes_next}
 
 -- a run leaves a list that is no shorter
 pub run_fits : (s : Seen) (r : Run) → Grows aig_ops s r → size s ≤ size r.domain
@@ -36,11 +36,11 @@ next_of_grows (Some r) enable nets own s =
     grows_then aig_ops aig_growing s q (λ a t. mux_run aig_values enable nets a own t) (grows_term aig_ops aig_growing (register_term r.kind) (map nets r.inputs ++ own ∷ []) s) (mux_run_grows enable nets q.answer own q.domain)
 
 pub state_grows : (m : MachineData) (q : Question) (nets states free : ℕ → ℕ) (r : ℕ) (s : Seen) → Grows aig_ops s (state_run aig_values m q nets states free r s)
-state_grows m q nets states free r s = go (is_in q.follows r)
+state_grows m q nets states free r s = go (takes_next m q r)
   where
-    go : (b : Bool) → Grows aig_ops s (if b then next_run aig_values m nets states r s else mux_run aig_values (enable_of m r) nets (free r) (states r) s)
+    go : (b : Bool) → Grows aig_ops s (if b then next_run aig_values m nets states r s else mux_run aig_values (lasting_enable m r) nets (free r) (states r) s)
     go true = next_of_grows (slice_get m.circuit.registers r) (enable_of m r) nets (states r) s
-    go false = mux_run_grows (enable_of m r) nets (free r) (states r) s
+    go false = mux_run_grows (lasting_enable m r) nets (free r) (states r) s
 
 pub lay_grows : (cells : List (LogicCell ℕ)) (t : Table) → size t.domain ≤ size (lay aig_values cells t).domain
 lay_grows [] t = omega arith

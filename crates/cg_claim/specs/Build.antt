@@ -16,12 +16,12 @@ use Rattle.cg_net.specs.NetSets.{is_in}
 use Rattle.cg_netlist.specs.declared.parts.LogicFunction.{LogicFunction}
 use Rattle.cg_netlist.specs.declared.parts.LogicFunction.TheVariants.{Cover, Cell}
 use Rattle.cg_machine.specs.Machine.{MachineData, enable_of, walk_of}
-use Rattle.cg_machine.specs.Claims.{Literal}
+use Rattle.cg_machine.specs.Claims.{Literal, lasting_enable}
 use Rattle.cg_claim.specs.declared.leaf.LeafSource.{LeafSource}
 use Rattle.cg_claim.specs.declared.leaf.LeafSource.TheVariants.{Input, Register}
 use Rattle.cg_claim.specs.Leaves.{Leaf, leaf_place, leaves_of, width_of}
 use Rattle.cg_claim.specs.Question.{Copy, Before, After, Changed, CopyPart, Net, Next, State, Enable, Side, Question}
-use Rattle.cg_claim.specs.Reach.{after_nets, after_states, before_nets, changed_nets, register_term, registers_of}
+use Rattle.cg_claim.specs.Reach.{after_nets, after_states, before_nets, changed_nets, register_term, registers_of, takes_next}
 
 -- values that stand for bits: a domain's operations, the inverse of a value where that takes no operation of the list,
 -- and the value of leaf k, counted from 0. The value 0 stands for the bit 0.
@@ -101,7 +101,7 @@ next_run d m nets states r s = next_run_of d (slice_get m.circuit.registers r) (
 -- the state of a register after the first cycle, of which nets and states are given
 abbrev pub state_run : Values → MachineData → Question → (ℕ → ℕ) → (ℕ → ℕ) → (ℕ → ℕ) → ℕ → Seen → Run
 state_run d m q nets states free r s =
-    if is_in q.follows r then next_run d m nets states r s else mux_run d (enable_of m r) nets (free r) (states r) s
+    if takes_next m q r then next_run d m nets states r s else mux_run d (lasting_enable m r) nets (free r) (states r) s
 
 -- states of registers after the first cycle, one after another
 abbrev pub lay_states : Values → MachineData → Question → (ℕ → ℕ) → (ℕ → ℕ) → (ℕ → ℕ) → List ℕ → Table → Table

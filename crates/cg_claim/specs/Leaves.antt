@@ -11,7 +11,7 @@ use Rattle.cg_claim.specs.declared.leaf.LeafSource.{LeafSource}
 use Rattle.cg_claim.specs.declared.leaf.LeafSource.TheVariants.{Input, Register}
 use Rattle.cg_claim.specs.Question.{Copy, Before, After, Changed, Question}
 use Rattle.cg_claim.specs.Reach.{after_nets, after_states, before_nets, before_states, changed_nets, changed_states, registers_of}
-use Rattle.cg_claim.specs.Reach.{same_copy}
+use Rattle.cg_claim.specs.Reach.{same_copy, takes_next}
 
 -- a leaf: a data input or a register of a copy
 pub record Leaf : Type 0 where
@@ -25,7 +25,7 @@ abbrev pub is_reached : MachineData → Question → Copy → LeafSource → Boo
 is_reached m q Before (Input y) = is_in (before_nets m q) y
 is_reached m q Before (Register r) = before_states m q r
 is_reached m q After (Input y) = is_in (after_nets m q) y || is_in (changed_nets m q) y
-is_reached m q After (Register r) = after_states m q r && not (is_in q.follows r)
+is_reached m q After (Register r) = after_states m q r && not (takes_next m q r)
 is_reached m q Changed (Input y) = false
 is_reached m q Changed (Register r) = changed_states m q r && is_in q.changes r
 

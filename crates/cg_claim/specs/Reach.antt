@@ -10,6 +10,7 @@ use Rattle.cg_net.specs.NetSets.{is_in}
 use Rattle.cg_netlist_cone.specs.Cone.{cone_of, register_feeds}
 use Rattle.cg_netlist.specs.declared.parts.RegisterKind.{RegisterKind}
 use Rattle.cg_netlist.specs.declared.parts.RegisterKind.TheVariants.{Plain, Flop}
+use Rattle.cg_machine.specs.Claims.{is_followed, lasting_enable}
 use Rattle.cg_machine.specs.Machine.{MachineData, enable_of, walk_of}
 use Rattle.cg_claim.specs.Question.{Copy, Before, After, Changed, CopyPart, Net, Next, State, Enable, Side, Question}
 
@@ -98,14 +99,18 @@ abbrev pub after_states : MachineData → Question → ℕ → Bool
 after_states m q r =
     feeds m (after_nets m q) r || (sides_ask m After q.sides r || (changed_states m q r && not (is_in q.changes r)))
 
--- the nets of the first cycle that the state of register r after it asks for: where r holds its next bit those of that
--- bit, and else its enable
+-- whether register r has its next bit after the first cycle
+abbrev pub takes_next : MachineData → Question → ℕ → Bool
+takes_next m q r = is_in q.follows r && is_followed m r
+
+-- the nets of the first cycle that the state of register r after it asks for: where r has its next bit those of that bit, and else the
+-- enable that decides whether it keeps its own
 abbrev pub origin_nets : MachineData → Question → ℕ → List ℕ
-origin_nets m q r = if is_in q.follows r then next_nets m r else option_to_list (enable_of m r)
+origin_nets m q r = if takes_next m q r then next_nets m r else option_to_list (lasting_enable m r)
 
 -- and whether it asks for the register's bit in the first cycle
 abbrev pub origin_asks : MachineData → Question → ℕ → Bool
-origin_asks m q r = if is_in q.follows r then next_asks_own m r else is_some (enable_of m r)
+origin_asks m q r = if takes_next m q r then next_asks_own m r else is_some (lasting_enable m r)
 
 abbrev pub before_nets : MachineData → Question → List ℕ
 before_nets m q =

@@ -11,7 +11,7 @@ use Rattle.cg_claim.specs.declared.leaf.Leaf.{Leaf as ShownLeaf}
 use Rattle.cg_claim.specs.declared.leaf.LeafSource.TheVariants.{Input as InputOf, Register as RegisterOf}
 use Rattle.cg_claim.specs.Leaves.{copy_number, leaves_at, leaves_of, shown_leaf}
 use Rattle.cg_claim.specs.Question.{Copy, Before, After, Changed, Question}
-use Rattle.cg_claim.specs.Reach.{after_nets, after_states, before_nets, before_states, changed_nets, changed_states, registers_of}
+use Rattle.cg_claim.specs.Reach.{after_nets, after_states, before_nets, before_states, changed_nets, changed_states, registers_of, takes_next}
 use Rattle.cg_claim.proofs.LeafOrder.{inputs_at, leaf, leaves_are, registers_at}
 use Rattle.cg_claim_reach.specs.Leaves.{input_leaf, register_leaf}
 use Rattle.cg_claim_reach.specs.Reached.{IsConeOf}
@@ -47,13 +47,12 @@ module _ (m : MachineData) (q : Question) where
       → first ≡ old ++ map (input_leaf 0) inputs → new ≡ first ++ map (register_leaf 0) registers → new ≡ old ++ map shown_leaf (leaves_at m q Before)
   before_leaves cone old first new inputs registers is inputs_are registers_are one two = pushed Before old first new inputs registers (inputs_are ∙ is.inputs) registers_are one two
 
-  pub after_leaves : (old first new : List ShownLeaf) (inputs registers states : List ℕ) (follows : ℕ → Bool) → inputs ≡ filter (λ y. is_in (after_nets m q) y || is_in (changed_nets m q) y) (data_inputs m.circuit)
-      → ((r : ℕ) → is_in q.follows r ≡ follows r) → states ≡ filter (after_states m q) (registers_of m) → registers ≡ filter (λ r. not (follows r)) states
+  pub after_leaves : (old first new : List ShownLeaf) (inputs registers states : List ℕ) → inputs ≡ filter (λ y. is_in (after_nets m q) y || is_in (changed_nets m q) y) (data_inputs m.circuit)
+      → states ≡ filter (after_states m q) (registers_of m) → registers ≡ filter (λ r. not (takes_next m q r)) states
       → first ≡ old ++ map (input_leaf 1) inputs → new ≡ first ++ map (register_leaf 1) registers → new ≡ old ++ map shown_leaf (leaves_at m q After)
-  after_leaves old first new inputs registers states follows inputs_are known states_are registers_are one two =
+  after_leaves old first new inputs registers states inputs_are states_are registers_are one two =
       pushed After old first new inputs registers inputs_are
-      (registers_are ∙ (ap (filter (λ r. not (follows r))) states_are ∙ (filter_twice (after_states m q) (λ r. not (follows r)) (registers_of m)
-      ∙ same_test (λ r. after_states m q r && not (follows r)) (λ r. after_states m q r && not (is_in q.follows r)) (registers_of m) (λ r. ap (λ b. after_states m q r && not b) (sym (known r)))))) one two
+      (registers_are ∙ (ap (filter (λ r. not (takes_next m q r))) states_are ∙ filter_twice (after_states m q) (λ r. not (takes_next m q r)) (registers_of m))) one two
 
   pub changed_leaves : (old new : List ShownLeaf) (registers states : List ℕ) (changes : ℕ → Bool)
       → ((r : ℕ) → is_in q.changes r ≡ changes r) → states ≡ filter (changed_states m q) (registers_of m) → registers ≡ filter changes states

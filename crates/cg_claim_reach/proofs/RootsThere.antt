@@ -10,11 +10,12 @@ use Rattle.cg_net.specs.NetSets.{is_in}
 use Rattle.cg_net.proofs.Members.{All-from_members, All-member, is_in_cases}
 use Rattle.cg_netlist.proofs.Used.{data_is_used}
 use Rattle.cg_machine.specs.Claims.{Literal}
-use Rattle.cg_machine.specs.Machine.{IsMachine, MachineData, enable_of}
+use Rattle.cg_machine.specs.Claims.{lasting_enable}
+use Rattle.cg_machine.specs.Machine.{IsMachine, MachineData, enable_of, has_controls}
 use Rattle.cg_machine.proofs.Lists.{below_range, in_one}
 use Rattle.cg_claim.specs.Question.{Copy, Before, CopyPart, Net, Next, State, Enable, Side, Question}
 use Rattle.cg_claim.specs.Reach.{after_states, enable_nets, inputs_of_register, next_nets, origin_nets, part_nets, registers_of}
-use Rattle.cg_claim.specs.Reach.{same_copy, side_nets, sides_nets}
+use Rattle.cg_claim.specs.Reach.{same_copy, side_nets, sides_nets, takes_next}
 use Rattle.cg_claim_reach.specs.Asking.{AsksThere, PartThere, SidesThere}
 use Rattle.cg_claim_reach.proofs.Filtering.{in_filtered}
 
@@ -45,6 +46,13 @@ module _ (m : MachineData) (good : IsMachine m) where
       go : (o : Option ℕ) → enable_of m r ≡ o → AreThere m (option_to_list o)
       go None is = none_there m
       go (Some e) is = λ x among. subst (λ y. y < length m.circuit.names) (sym (in_one x e among)) (good.enabled r e is).below
+
+  lasting_there : (r : ℕ) → AreThere m (option_to_list (lasting_enable m r))
+  lasting_there r = go (has_controls m r)
+    where
+      go : (b : Bool) → AreThere m (option_to_list (if b then None else enable_of m r))
+      go true = none_there m
+      go false = enable_there r
 
   pub next_there : (r : ℕ) → AreThere m (next_nets m r)
   next_there r = both_there m (inputs_of_register m r) (option_to_list (enable_of m r)) (go (slice_get m.circuit.registers r) refl) (enable_there r)
@@ -77,11 +85,11 @@ module _ (m : MachineData) (good : IsMachine m) where
   -- what the states after the first cycle ask for in it
   pub origins_there : (q : Question) (rs : List ℕ) → AreThere m (flat_map (origin_nets m q) rs)
   origins_there q [] = none_there m
-  origins_there q (r ∷ rs) = both_there m (origin_nets m q r) (flat_map (origin_nets m q) rs) (go (is_in q.follows r)) (origins_there q rs)
+  origins_there q (r ∷ rs) = both_there m (origin_nets m q r) (flat_map (origin_nets m q) rs) (go (takes_next m q r)) (origins_there q rs)
     where
-      go : (b : Bool) → AreThere m (if b then next_nets m r else option_to_list (enable_of m r))
+      go : (b : Bool) → AreThere m (if b then next_nets m r else option_to_list (lasting_enable m r))
       go true = next_there r
-      go false = enable_there r
+      go false = lasting_there r
 
   -- what is asked for in the first cycle
   pub before_roots_there : (q : Question) → AsksThere m q → AreThere m (enable_nets q ++ sides_nets m (enable_nets q) Before q.sides ++ flat_map (origin_nets m q) (filter (after_states m q) (registers_of m)))

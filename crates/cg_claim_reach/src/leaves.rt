@@ -15,7 +15,7 @@ ghost use Rattle.cg_claim_reach.specs.Reached.{IsConeOf};
 use crate::asked::Asked;
 use crate::named::Named;
 use crate::reached::Later;
-use crate::sources::{before_states, inside, outside};
+use crate::sources::{before_states, inside, without_next};
 use cg_claim::leaf::{Leaf, LeafSource};
 use cg_list::Seq;
 use cg_machine::machine::Machine;
@@ -65,7 +65,7 @@ fn push_after(
     ensures { OnOk result (leaves.new.items ≡ leaves.old.items ++ map shown_leaf (leaves_at machine.now (question_of asked.now) After)) }
 {
     let inputs = both_inputs(alloc, machine, &later.after, &later.changed)?;
-    let registers = outside(alloc, later.states.as_slice(), &named.follows)?;
+    let registers = without_next(alloc, machine, &named.follows, later.states.as_slice())?;
     push_inputs(1, &inputs, leaves)?;
     push_registers(1, &registers, leaves)?;
     Ok(())

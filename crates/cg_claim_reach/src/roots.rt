@@ -4,13 +4,15 @@ ghost use Rattle.std.specs.Prelude.{◌≡◌, ◌<◌, ◌++◌, ◌∷◌, [],
 ghost use Rattle.std.specs.List.{All, flat_map};
 ghost use Rattle.std.specs.Option.{option_to_list};
 ghost use Rattle.cg_net.specs.NetSets.{is_in};
+ghost use Rattle.cg_machine.specs.Claims.{lasting_enable};
 ghost use Rattle.cg_machine.specs.Machine.{enable_of};
 ghost use Rattle.cg_claim.specs.Question.{Question};
 ghost use Rattle.cg_claim.specs.Reach.{enable_nets, inputs_of_register, next_nets, origin_nets, part_nets, same_copy, side_nets};
-ghost use Rattle.cg_claim.specs.Reach.{sides_nets};
+ghost use Rattle.cg_claim.specs.Reach.{sides_nets, takes_next};
 ghost use Rattle.cg_claim_reach.specs.Asking.{AsksThere, PartThere, copy_of, part_of, question_of, side_of};
 
 use crate::asked::{Asked, Frame, Part, Side};
+use crate::named::takes_next;
 use cg_machine::machine::Machine;
 use cg_machine::stage::NetLit;
 use cg_net::id::{NetId, RegId};
@@ -139,14 +141,29 @@ fn push_enable_of(machine: &Machine, reg: RegId, roots: &mut Vec<NetId>) -> Resu
     requires { reg < length machine.now.circuit.registers }
     ensures { OnOk result (roots.new.items ≡ roots.old.items ++ option_to_list (enable_of machine.now reg)) }
 {
-    if let Some(enable) = machine.enable(reg) {
-        roots.push(enable)?;
+    push_some(machine.enable(reg), roots)
+}
+
+/// Puts the enable of a register behind the others, where it has one that alone decides whether the register keeps its bit.
+fn push_lasting_of(machine: &Machine, reg: RegId, roots: &mut Vec<NetId>) -> Result<(), AllocError>
+    requires { reg < length machine.now.circuit.registers }
+    ensures { OnOk result (roots.new.items ≡ roots.old.items ++ option_to_list (lasting_enable machine.now reg)) }
+{
+    push_some(machine.lasting_enable(reg), roots)
+}
+
+/// Puts a net behind the others, where there is one.
+fn push_some(net: Option<NetId>, roots: &mut Vec<NetId>) -> Result<(), AllocError>
+    ensures { OnOk result (roots.new.items ≡ roots.old.items ++ option_to_list net) }
+{
+    if let Some(net) = net {
+        roots.push(net)?;
     }
     Ok(())
 }
 
 /// Puts the nets of the first cycle behind the others that the states of these registers after it ask for. Those in
-/// `follows` hold their next bits.
+/// `follows` hold their next bits, where anything is said of what they take.
 pub(crate) fn push_origins(
     machine: &Machine,
     follows: &IndexSet<u32>,
@@ -158,24 +175,25 @@ pub(crate) fn push_origins(
         → roots.new.items ≡ roots.old.items ++ flat_map (origin_nets machine.now q) states.now) }
 {
     for reg in states {
-        push_origin(machine, follows.contains(&reg.number()), *reg, roots)?;
+        let next = takes_next(machine, follows, *reg);
+        push_origin(machine, next, *reg, roots)?;
     }
     Ok(())
 }
 
-/// Puts the nets of the first cycle behind the others that the state of a register after it asks for.
+/// Puts the nets of the first cycle behind the others that the state of a register after it asks for, which is its next bit or not.
 fn push_origin(
     machine: &Machine,
-    follows: bool,
+    next: bool,
     reg: RegId,
     roots: &mut Vec<NetId>,
 ) -> Result<(), AllocError>
     requires { reg < length machine.now.circuit.registers }
-    ensures { OnOk result ((q : Question) → is_in q.follows reg ≡ follows → roots.new.items ≡ roots.old.items ++ origin_nets machine.now q reg) }
+    ensures { OnOk result ((q : Question) → takes_next machine.now q reg ≡ next → roots.new.items ≡ roots.old.items ++ origin_nets machine.now q reg) }
 {
-    if follows {
+    if next {
         push_next(machine, reg, roots)
     } else {
-        push_enable_of(machine, reg, roots)
+        push_lasting_of(machine, reg, roots)
     }
 }

@@ -6,14 +6,14 @@ ghost use Rattle.std.specs.List.{All, filter, range_with_len};
 ghost use Rattle.cg_net.specs.NetSets.{is_in};
 ghost use Rattle.cg_claim.specs.Question.{Question};
 ghost use Rattle.cg_claim.specs.Reach.{after_nets, after_states, before_nets, before_states, changed_nets};
-ghost use Rattle.cg_claim.specs.Reach.{changed_states, origin_asks, registers_of};
+ghost use Rattle.cg_claim.specs.Reach.{changed_states, origin_asks, registers_of, takes_next};
 ghost use Rattle.cg_claim_reach.specs.Asking.{AsksThere, PartThere, copy_of, part_of, question_of, side_of};
 ghost use Rattle.cg_claim_reach.specs.inner.Sources.{part_states, side_states, sides_states, with_numbers};
 ghost use Rattle.cg_claim_reach.specs.inner.Found.{AreSetsOf, IsLater};
 ghost use Rattle.cg_claim_reach.specs.Reached.{IsConeOf};
 
 use crate::asked::{Asked, Frame, Part, Side};
-use crate::named::Named;
+use crate::named::{Named, takes_next};
 use crate::own::asks_own;
 use crate::reached::Later;
 use crate::roots::is_same;
@@ -91,6 +91,26 @@ pub(crate) fn outside(
     let mut some = Vec::new(alloc);
     for reg in regs {
         push_reg_if(!set.contains(&reg.number()), *reg, &mut some)?;
+    }
+    Ok(some)
+}
+
+/// Those of these registers that do not hold their next bits after the first cycle. Those in `follows` hold them, where anything is
+/// said of what they take.
+pub(crate) fn without_next(
+    alloc: Global,
+    machine: &Machine,
+    follows: &IndexSet<u32>,
+    states: &[RegId],
+) -> Result<Vec<RegId>, AllocError>
+    requires { All (λ r. r < length machine.now.circuit.registers) states.now }
+    ensures { IfOk result (λ some. (q : Question) → ((r : ℕ) → is_in q.follows r ≡ is_in follows.now.keys r)
+        → some.items ≡ filter (λ r. not (takes_next machine.now q r)) states.now) }
+{
+    let mut some = Vec::new(alloc);
+    for reg in states {
+        let next = takes_next(machine, follows, *reg);
+        push_reg_if(!next, *reg, &mut some)?;
     }
     Ok(some)
 }
@@ -239,7 +259,7 @@ pub fn push_if(wanted: bool, reg: RegId, numbers: &mut Vec<u32>) -> Result<(), A
 }
 
 /// Puts those of these registers behind the numbers whose states after the first cycle ask for their bits in it. Those
-/// in `follows` hold their next bits.
+/// in `follows` hold their next bits, where anything is said of what they take.
 fn push_origins(
     machine: &Machine,
     follows: &IndexSet<u32>,
@@ -251,20 +271,21 @@ fn push_origins(
         → numbers.new.items ≡ numbers.old.items ++ filter (origin_asks machine.now q) states.now) }
 {
     for reg in states {
-        let asks = origin_asks(machine, follows.contains(&reg.number()), *reg);
+        let next = takes_next(machine, follows, *reg);
+        let asks = origin_asks(machine, next, *reg);
         push_if(asks, *reg, numbers)?;
     }
     Ok(())
 }
 
-/// Whether the state of a register after the first cycle asks for its bit in it.
-fn origin_asks(machine: &Machine, follows: bool, reg: RegId) -> bool
+/// Whether the state of a register after the first cycle, which is its next bit or not, asks for its bit in that cycle.
+fn origin_asks(machine: &Machine, next: bool, reg: RegId) -> bool
     requires { reg < length machine.now.circuit.registers }
-    ensures { (q : Question) → is_in q.follows reg ≡ follows → result ≡ origin_asks machine.now q reg }
+    ensures { (q : Question) → takes_next machine.now q reg ≡ next → result ≡ origin_asks machine.now q reg }
 {
-    if follows {
+    if next {
         asks_own(machine, reg)
     } else {
-        machine.enable(reg).is_some()
+        machine.lasting_enable(reg).is_some()
     }
 }

@@ -1,5 +1,6 @@
 pub mod WordsRead
 pub mod Places
+pub mod WordsBetween
 pub mod EachJob
 pub mod TestInput
 pub mod NamedClock

@@ -5,7 +5,9 @@ use Rattle.clap.specs.Words.{Text}
 use Rattle.cg_limit.specs.declared.TheConstants.{DEFAULT_MIN, DEFAULT_ROUNDS, DEFAULT_WIDTH, LEAST_MIN, LEAST_ROUNDS, LEAST_WIDTH}
 use Rattle.cg_limit.specs.declared.TheConstants.{MOST_MIN, MOST_ROUNDS, MOST_WIDTH}
 use Rattle.cg_plan_laws.specs.declared.settings.Settings.{Settings}
+use Rattle.cg_source.specs.declared.accept.Accept.{Accept}
 use Rattle.cg_source.specs.declared.stimulus.StimulusForm.{StimulusForm}
+use Rattle.cg_command_line.specs.Accepting.{accept_in}
 use Rattle.cg_command_line.specs.CommandLine.{Values}
 use Rattle.cg_command_line.specs.Jobs.{JobWords, job_of}
 use Rattle.cg_command_line.specs.Options.{NamesTest, asked_in, default_prefix, form_of, gate_options_with, has_gate_options, is_apart}
@@ -34,22 +36,24 @@ settings_name test proof (Some min) (Some width) None = tt
 settings_name test proof (Some min) None rounds = tt
 settings_name test proof None width rounds = tt
 
-gate_names : (netlist : Text) (values : Values) (settings : Option Settings) (watch : Option (Option ℕ)) (stimulus : Option (Option StimulusForm)) → IfSome settings (λ settings. settings.test ≡ is_some values.test)
-    → IfSome (gate_options_with netlist values settings watch stimulus) NamesTest
-gate_names netlist values (Some settings) (Some watch) (Some stimulus) asked =
+gate_names : (netlist : Text) (values : Values) (settings : Option Settings) (watch : Option (Option ℕ)) (stimulus : Option (Option StimulusForm)) (accept : Option Accept) → IfSome settings (λ settings. settings.test ≡ is_some values.test)
+    → IfSome (gate_options_with netlist values settings watch stimulus accept) NamesTest
+gate_names netlist values (Some settings) (Some watch) (Some stimulus) (Some accept) asked =
     if_taken NamesTest (is_named values.clock && (is_named values.prefix && (is_named values.test && (is_apart (unwrap_or values.prefix default_prefix) values.test && (may_watch values stimulus && may_hint values)))))
-    (Some (record { netlist = record { form = form_of netlist; clock = values.clock }; prefix = unwrap_or values.prefix default_prefix; test = values.test; settings = settings; watch = watch; asked = asked_in values stimulus }))
+    (Some (record { netlist = record { accept = accept; form = form_of netlist; clock = values.clock }; prefix = unwrap_or values.prefix default_prefix; test = values.test; settings = settings; watch = watch; asked = asked_in values stimulus }))
     (λ taken.
     let hold = tests_hold (is_named values.clock) (is_named values.prefix) (is_named values.test) (is_apart (unwrap_or values.prefix default_prefix) values.test) (may_watch values stimulus) (may_hint values) taken in
     record { asked = asked; apart = hold.0; unhinted = hints_alone values.hints values.test hold.1 })
-gate_names netlist values (Some settings) (Some watch) None asked = tt
-gate_names netlist values (Some settings) None stimulus asked = tt
-gate_names netlist values None watch stimulus asked = tt
+gate_names netlist values (Some settings) (Some watch) (Some stimulus) None asked = tt
+gate_names netlist values (Some settings) (Some watch) None accept asked = tt
+gate_names netlist values (Some settings) None stimulus accept asked = tt
+gate_names netlist values None watch stimulus accept asked = tt
 
-sim_names : (netlist : Text) (values : Values) (watch : Option (Option ℕ)) → IfSome (sim_options_with netlist values watch) NamesTest
-sim_names netlist values (Some watch) =
-    if_taken NamesTest (is_named values.clock && not (has_gate_options values)) (Some (record no_options { netlist = record { form = form_of netlist; clock = values.clock }; watch = watch })) (λ taken. record { asked = refl; apart = refl; unhinted = λ hinted. refl })
-sim_names netlist values None = tt
+sim_names : (netlist : Text) (values : Values) (watch : Option (Option ℕ)) (accept : Option Accept) → IfSome (sim_options_with netlist values watch accept) NamesTest
+sim_names netlist values (Some watch) (Some accept) =
+    if_taken NamesTest (is_named values.clock && not (has_gate_options values)) (Some (record no_options { netlist = record { accept = accept; form = form_of netlist; clock = values.clock }; watch = watch })) (λ taken. record { asked = refl; apart = refl; unhinted = λ hinted. refl })
+sim_names netlist values (Some watch) None = tt
+sim_names netlist values None accept = tt
 
 abbrev JobNames : JobWords → Type 0
 JobNames job = NamesTest job.options
@@ -58,8 +62,8 @@ JobNames job = NamesTest job.options
 pub test_is_named : (watchers words : List Text) → IfSome (job_of watchers words) (λ job. NamesTest job.options)
 test_is_named watchers words =
     each_job JobNames watchers
-    (λ library netlist out values different. gate_names netlist values (settings_in values) (watch_in watchers values.watch) (stimulus_in values) (settings_name (is_some values.test) (is_some values.proof) (number_or DEFAULT_MIN LEAST_MIN MOST_MIN values.min) (number_or DEFAULT_WIDTH LEAST_WIDTH MOST_WIDTH values.width) (number_or DEFAULT_ROUNDS LEAST_ROUNDS MOST_ROUNDS values.rounds)))
-    (λ form library netlist stimulus values. sim_names netlist values (watch_in watchers values.watch))
+    (λ library netlist out values different. gate_names netlist values (settings_in values) (watch_in watchers values.watch) (stimulus_in values) (accept_in values.accept) (settings_name (is_some values.test) (is_some values.proof) (number_or DEFAULT_MIN LEAST_MIN MOST_MIN values.min) (number_or DEFAULT_WIDTH LEAST_WIDTH MOST_WIDTH values.width) (number_or DEFAULT_ROUNDS LEAST_ROUNDS MOST_ROUNDS values.rounds)))
+    (λ form library netlist stimulus values. sim_names netlist values (watch_in watchers values.watch) (accept_in values.accept))
     (λ formula log. record { asked = refl; apart = refl; unhinted = λ hinted. refl })
     (λ size. record { asked = refl; apart = refl; unhinted = λ hinted. refl })
     words

@@ -56,7 +56,7 @@ pub option_added : (command whole : Command) (option : Arg) (name : List ℕ) �
 option_added command whole option name adds apart rule = adds.shape apart ∙ ap (λ (r : Rule). with_rule (app_of command) r) rule
 
 -- the command with all its options, one after the other
-pub options_added : {E : Type 0} (files stim vcd random hints proof report verilog registers min width rounds clock prefix test : Command) (result : Result Command E) → app_of files ≡ with_rule (with_rule (new_app (codes "clockgate")) mode_rule) files_rule
+pub options_added : {E : Type 0} (files stim vcd random hints proof report verilog registers min width rounds clock prefix test watch : Command) (result : Result Command E) → app_of files ≡ with_rule (with_rule (new_app (codes "clockgate")) mode_rule) files_rule
     → app_of stim ≡ with_option (app_of files) (codes "stim")
     → app_of vcd ≡ with_option (app_of stim) (codes "vcd")
     → app_of random ≡ with_option (app_of vcd) (codes "random")
@@ -71,16 +71,17 @@ pub options_added : {E : Type 0} (files stim vcd random hints proof report veril
     → app_of clock ≡ with_option (app_of rounds) (codes "clock")
     → app_of prefix ≡ with_option (app_of clock) (codes "prefix")
     → app_of test ≡ with_option (app_of prefix) (codes "test")
-    → IfOk result (λ whole. app_of whole ≡ with_option (app_of test) (codes "watch")) → IfOk result (λ whole. app_of whole ≡ command_line)
-options_added files stim vcd random hints proof report verilog registers min width rounds clock prefix test (Ok whole) e0 e1 e2 e3 e4 e5 e6 e7 e8 e9 e10 e11 e12 e13 e14 last = last ∙ ap (λ (a : App). with_option a (codes "watch")) (e14 ∙ ap (λ (a : App). with_option a (codes "test")) (e13 ∙ ap (λ (a : App). with_option a (codes "prefix")) (e12 ∙ ap (λ (a : App). with_option a (codes "clock")) (e11 ∙ ap (λ (a : App). with_option a (codes "rounds")) (e10 ∙ ap (λ (a : App). with_option a (codes "width")) (e9 ∙ ap (λ (a : App). with_option a (codes "min")) (e8 ∙ ap (λ (a : App). with_option a (codes "registers")) (e7 ∙ ap (λ (a : App). with_option a (codes "verilog")) (e6 ∙ ap (λ (a : App). with_option a (codes "report")) (e5 ∙ ap (λ (a : App). with_option a (codes "proof")) (e4 ∙ ap (λ (a : App). with_option a (codes "hints")) (e3 ∙ ap (λ (a : App). with_option a (codes "random")) (e2 ∙ ap (λ (a : App). with_option a (codes "vcd")) (e1 ∙ ap (λ (a : App). with_option a (codes "stim")) e0))))))))))))))
-options_added files stim vcd random hints proof report verilog registers min width rounds clock prefix test (Err fault) e0 e1 e2 e3 e4 e5 e6 e7 e8 e9 e10 e11 e12 e13 e14 last = tt
+    → app_of watch ≡ with_option (app_of test) (codes "watch")
+    → IfOk result (λ whole. app_of whole ≡ with_option (app_of watch) (codes "accept")) → IfOk result (λ whole. app_of whole ≡ command_line)
+options_added files stim vcd random hints proof report verilog registers min width rounds clock prefix test watch (Ok whole) e0 e1 e2 e3 e4 e5 e6 e7 e8 e9 e10 e11 e12 e13 e14 e15 last = last ∙ ap (λ (a : App). with_option a (codes "accept")) (e15 ∙ ap (λ (a : App). with_option a (codes "watch")) (e14 ∙ ap (λ (a : App). with_option a (codes "test")) (e13 ∙ ap (λ (a : App). with_option a (codes "prefix")) (e12 ∙ ap (λ (a : App). with_option a (codes "clock")) (e11 ∙ ap (λ (a : App). with_option a (codes "rounds")) (e10 ∙ ap (λ (a : App). with_option a (codes "width")) (e9 ∙ ap (λ (a : App). with_option a (codes "min")) (e8 ∙ ap (λ (a : App). with_option a (codes "registers")) (e7 ∙ ap (λ (a : App). with_option a (codes "verilog")) (e6 ∙ ap (λ (a : App). with_option a (codes "report")) (e5 ∙ ap (λ (a : App). with_option a (codes "proof")) (e4 ∙ ap (λ (a : App). with_option a (codes "hints")) (e3 ∙ ap (λ (a : App). with_option a (codes "random")) (e2 ∙ ap (λ (a : App). with_option a (codes "vcd")) (e1 ∙ ap (λ (a : App). with_option a (codes "stim")) e0)))))))))))))))
+options_added files stim vcd random hints proof report verilog registers min width rounds clock prefix test watch (Err fault) e0 e1 e2 e3 e4 e5 e6 e7 e8 e9 e10 e11 e12 e13 e14 e15 last = tt
 
 -- the values of the options
 
 value_is : (found : Found) (id : List ℕ) (value : Option (List ℕ)) → value ≡ first_value found id → value ≡ first_of id (rows_of found)
 value_is found id value is = is ∙ first_value-rows found id
 
-pub values_are : (found : Found) (stim vcd random hints proof report verilog registers min width rounds clock prefix test watch : Option (List ℕ))
+pub values_are : (found : Found) (stim vcd random hints proof report verilog registers min width rounds clock prefix test watch accept : Option (List ℕ))
     → stim ≡ first_value found (codes "stim")
     → vcd ≡ first_value found (codes "vcd")
     → random ≡ first_value found (codes "random")
@@ -96,8 +97,9 @@ pub values_are : (found : Found) (stim vcd random hints proof report verilog reg
     → prefix ≡ first_value found (codes "prefix")
     → test ≡ first_value found (codes "test")
     → watch ≡ first_value found (codes "watch")
-    → let values : Values = record { stim = stim; vcd = vcd; random = random; hints = hints; proof = proof; report = report; verilog = verilog; registers = registers; min = min; width = width; rounds = rounds; clock = clock; prefix = prefix; test = test; watch = watch } in values ≡ values_in (rows_of found)
-values_are found stim vcd random hints proof report verilog registers min width rounds clock prefix test watch h0 h1 h2 h3 h4 h5 h6 h7 h8 h9 h10 h11 h12 h13 h14 = λ j. record {
+    → accept ≡ first_value found (codes "accept")
+    → let values : Values = record { stim = stim; vcd = vcd; random = random; hints = hints; proof = proof; report = report; verilog = verilog; registers = registers; min = min; width = width; rounds = rounds; clock = clock; prefix = prefix; test = test; watch = watch; accept = accept } in values ≡ values_in (rows_of found)
+values_are found stim vcd random hints proof report verilog registers min width rounds clock prefix test watch accept h0 h1 h2 h3 h4 h5 h6 h7 h8 h9 h10 h11 h12 h13 h14 h15 = λ j. record {
   stim = value_is found (codes "stim") stim h0 j;
   vcd = value_is found (codes "vcd") vcd h1 j;
   random = value_is found (codes "random") random h2 j;
@@ -113,6 +115,7 @@ values_are found stim vcd random hints proof report verilog registers min width 
   prefix = value_is found (codes "prefix") prefix h12 j;
   test = value_is found (codes "test") test h13 j;
   watch = value_is found (codes "watch") watch h14 j;
+  accept = value_is found (codes "accept") accept h15 j;
 }
 
 -- the job that the matches ask for

@@ -24,7 +24,7 @@ with_options app (name ∷ names) = with_options (with_option app name) names
 abbrev pub option_names : List Text
 option_names =
     codes "stim" ∷ codes "vcd" ∷ codes "random" ∷ codes "hints" ∷ codes "proof" ∷ codes "report" ∷ codes "verilog" ∷ codes "registers" ∷ codes "min"
-    ∷ codes "width" ∷ codes "rounds" ∷ codes "clock" ∷ codes "prefix" ∷ codes "test" ∷ codes "watch" ∷ []
+    ∷ codes "width" ∷ codes "rounds" ∷ codes "clock" ∷ codes "prefix" ∷ codes "test" ∷ codes "watch" ∷ codes "accept" ∷ []
 
 abbrev pub command_line : App
 command_line = with_options (with_rule (with_rule (new_app (codes "clockgate")) mode_rule) files_rule) option_names
@@ -46,6 +46,7 @@ pub record Values : Type 0 where
   pub prefix : Option Text
   pub test : Option Text
   pub watch : Option Text
+  pub accept : Option Text
 
 -- those that the matches of the command have
 abbrev pub values_in : List Row → Values
@@ -65,4 +66,5 @@ values_in rows = record {
   prefix = first_of (codes "prefix") rows;
   test = first_of (codes "test") rows;
   watch = first_of (codes "watch") rows;
+  accept = first_of (codes "accept") rows;
 }

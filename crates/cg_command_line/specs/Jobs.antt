@@ -40,7 +40,8 @@ abbrev pub job_of_options : Mode → Files → Option Options → Option JobWord
 job_of_options mode files options = option_map (λ options. record { mode = mode; files = files; options = options }) options
 
 -- `gate LIB NETLIST OUT` with `--stim F`, `--vcd F` or `--random N`, `--hints F`, `--proof F`, `--report F`, `--verilog F`,
--- `--registers F`, `--min N`, `--width N`, `--rounds N`, `--clock NAME`, `--prefix P`, `--test NAME` and `--watch NAME`, where all files are different
+-- `--registers F`, `--min N`, `--width N`, `--rounds N`, `--clock NAME`, `--prefix P`, `--test NAME`, `--watch NAME` and `--accept LIST`, where all files
+-- are different
 abbrev pub gate_files : Text → Text → Text → Values → Files
 gate_files library netlist out values =
     named roles.Library library ∷ named roles.Netlist netlist ∷ named roles.Stimulus (unwrap_or values.stim (unwrap_or values.vcd []))
@@ -53,8 +54,8 @@ gate_job watchers (library ∷ netlist ∷ out ∷ []) values =
     then job_of_options Gate (gate_files library netlist out values) (gate_options watchers netlist values) else None
 gate_job watchers files values = None
 
--- `sim LIB NETLIST STIM`, or `sim LIB NETLIST` with `--vcd F` or `--random N`, with `--clock NAME` and `--watch NAME`, where all
--- files are different
+-- `sim LIB NETLIST STIM`, or `sim LIB NETLIST` with `--vcd F` or `--random N`, with `--clock NAME`, `--watch NAME` and
+-- `--accept LIST`, where all files are different
 abbrev pub sim_files : Text → Text → Option Text → Files
 sim_files library netlist stimulus =
     named roles.Library library ∷ named roles.Netlist netlist ∷ map (named roles.Stimulus) (option_to_list stimulus)

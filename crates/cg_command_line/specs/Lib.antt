@@ -1,4 +1,5 @@
 pub mod CommandLine
 pub mod Seen
+pub mod Accepting
 pub mod Options
 pub mod Jobs

@@ -12,10 +12,13 @@ use Rattle.cg_plan_laws.specs.declared.settings.Settings.{Settings}
 use Rattle.cg_text.specs.Numbers.{number_of}
 use Rattle.cg_text.specs.declared.number.Number.{Number}
 use Rattle.cg_text.specs.declared.number.Number.TheVariants.{Large, Misspelled, Small}
+use Rattle.cg_source.specs.Accept.{accepts_nothing}
+use Rattle.cg_source.specs.declared.accept.Accept.{Accept}
 use Rattle.cg_source.specs.declared.netlist.NetlistForm.{NetlistForm}
 use Rattle.cg_source.specs.declared.netlist.NetlistForm.TheVariants.{Blif, Verilog}
 use Rattle.cg_source.specs.declared.stimulus.StimulusForm.{StimulusForm}
 use Rattle.cg_source.specs.declared.stimulus.StimulusForm.TheVariants as forms
+use Rattle.cg_command_line.specs.Accepting.{accept_in}
 use Rattle.cg_command_line.specs.CommandLine.{Values}
 use Rattle.cg_command_line.specs.declared.options.Asked.{Asked}
 use Rattle.cg_command_line.specs.declared.options.Options.{Options}
@@ -124,7 +127,7 @@ has_gate_options values =
 
 abbrev pub has_options : Values → Bool
 has_options values =
-    is_some values.clock || is_some values.watch || is_some values.vcd || is_some values.random || has_gate_options values
+    is_some values.clock || is_some values.watch || is_some values.vcd || is_some values.random || is_some values.accept || has_gate_options values
 
 -- the form of a netlist by the name of its file: Verilog where it ends in `.v`
 abbrev pub form_of : Text → NetlistForm
@@ -134,7 +137,7 @@ form_of netlist = if ends_with nat_eq netlist (codes ".v") then Verilog else Bli
 abbrev pub no_options : Options
 no_options =
     record {
-      netlist = record { form = Blif; clock = None };
+      netlist = record { accept = accepts_nothing; form = Blif; clock = None };
       prefix = default_prefix;
       test = None;
       settings = default_settings;
@@ -144,16 +147,16 @@ no_options =
 
 -- What the options of `gate` say, with a netlist of this name. The values of `--clock`, `--prefix` and `--test` are names, that of
 -- `--test` does not begin with the prefix, whether this is given or is the default. There is one stimulus at most, a watcher only with a
--- stimulus, and no hints with a test input.
-abbrev pub gate_options_with : Text → Values → Option Settings → Option (Option ℕ) → Option (Option StimulusForm) → Option Options
-gate_options_with netlist values (Some settings) (Some watch) (Some stimulus) =
+-- stimulus, and no hints with a test input. The words of `--accept` are words that there are.
+abbrev pub gate_options_with : Text → Values → Option Settings → Option (Option ℕ) → Option (Option StimulusForm) → Option Accept → Option Options
+gate_options_with netlist values (Some settings) (Some watch) (Some stimulus) (Some accept) =
     if is_named values.clock
     && (is_named values.prefix
     && (is_named values.test
     && (is_apart (unwrap_or values.prefix default_prefix) values.test && (may_watch values stimulus && may_hint values))))
     then Some
     (record {
-      netlist = record { form = form_of netlist; clock = values.clock };
+      netlist = record { accept = accept; form = form_of netlist; clock = values.clock };
       prefix = unwrap_or values.prefix default_prefix;
       test = values.test;
       settings = settings;
@@ -161,22 +164,22 @@ gate_options_with netlist values (Some settings) (Some watch) (Some stimulus) =
       asked = asked_in values stimulus;
     })
     else None
-gate_options_with netlist values _ _ _ = None
+gate_options_with netlist values _ _ _ _ = None
 
 abbrev pub gate_options : List Text → Text → Values → Option Options
 gate_options watchers netlist values =
-    gate_options_with netlist values (settings_in values) (watch_in watchers values.watch) (stimulus_in values)
+    gate_options_with netlist values (settings_in values) (watch_in watchers values.watch) (stimulus_in values) (accept_in values.accept)
 
 -- what those of `sim` say, with a netlist of this name
-abbrev pub sim_options_with : Text → Values → Option (Option ℕ) → Option Options
-sim_options_with netlist values (Some watch) =
+abbrev pub sim_options_with : Text → Values → Option (Option ℕ) → Option Accept → Option Options
+sim_options_with netlist values (Some watch) (Some accept) =
     if is_named values.clock && not (has_gate_options values)
-    then Some (record no_options { netlist = record { form = form_of netlist; clock = values.clock }; watch = watch })
+    then Some (record no_options { netlist = record { accept = accept; form = form_of netlist; clock = values.clock }; watch = watch })
     else None
-sim_options_with netlist values None = None
+sim_options_with netlist values _ _ = None
 
 abbrev pub sim_options : List Text → Text → Values → Option Options
-sim_options watchers netlist values = sim_options_with netlist values (watch_in watchers values.watch)
+sim_options watchers netlist values = sim_options_with netlist values (watch_in watchers values.watch) (accept_in values.accept)
 
 -- what options say of a test input: there is one exactly where it has a name, which does not begin with the prefix, and there is none
 -- where hints are asked for

@@ -20,4 +20,5 @@ values_of given = record {
   prefix = option_map (λ word. word.now) given.prefix;
   test = option_map (λ word. word.now) given.test;
   watch = option_map (λ word. word.now) given.watch;
+  accept = option_map (λ word. word.now) given.accept;
 }

@@ -26,7 +26,8 @@ pub fn command_line<'a>(alloc: Global) -> Result<Command<'a>, AllocError>
     let clock = with_option(alloc, rounds, "clock")?;
     let prefix = with_option(alloc, clock, "prefix")?;
     let test = with_option(alloc, prefix, "test")?;
-    with_option(alloc, test, "watch")
+    let watch = with_option(alloc, test, "watch")?;
+    with_option(alloc, watch, "accept")
 }
 
 /// The command without options.

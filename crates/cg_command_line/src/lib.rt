@@ -7,10 +7,12 @@
 //!
 //! - `command`: the one command that all words are read as;
 //! - `values`: the values of its options;
+//! - `accept`: what the words of one of them accept;
 //! - `options`: what they say;
 //! - `job`: what is to be done.
 #![tactic(auto)]
 
+mod accept;
 mod command;
 mod job;
 mod options;

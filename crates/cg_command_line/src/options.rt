@@ -11,6 +11,7 @@ ghost use Rattle.cg_command_line.specs.Options.{stimulus_in, watch_in};
 ghost use Rattle.cg_command_line.specs.Seen.{values_of};
 ghost use Rattle.cg_limit.specs.declared.TheConstants.{MOST_ROWS};
 
+use crate::accept::accept;
 use crate::values::OptionWords;
 use cg_cell::name::Name;
 use cg_limit::{
@@ -18,6 +19,7 @@ use cg_limit::{
     LEAST_WIDTH, MOST_MIN, MOST_ROUNDS, MOST_ROWS, MOST_WIDTH,
 };
 use cg_plan_laws::settings::Settings;
+use cg_source::accept::Accept;
 use cg_source::netlist::{NetlistForm, NetlistOptions};
 use cg_source::stimulus::StimulusForm;
 use cg_text::number::{Number, read_number};
@@ -38,7 +40,7 @@ pub struct Asked {
 /// What the options say; those that are left out have their defaults.
 #[derive(Debug, Drop)]
 pub struct Options {
-    /// How the netlist is read: its form, by the end of its name, and the net that is declared to be the clock.
+    /// How the netlist is read: what is accepted, its form, by the end of its name, and the net that is declared to be the clock.
     pub netlist: NetlistOptions,
 
     /// What the names of added nets begin with.
@@ -63,6 +65,7 @@ pub fn no_options(alloc: Global) -> Result<Options, AllocError>
 {
     Ok(Options {
         netlist: NetlistOptions {
+            accept: Accept::nothing(),
             form: NetlistForm::Blif,
             clock: None,
         },
@@ -105,6 +108,9 @@ pub fn gate_options(
     let Some(stimulus) = stimulus(given) else {
         return Ok(None);
     };
+    let Some(accept) = accept(given.accept) else {
+        return Ok(None);
+    };
     if !is_named(given.clock) || !is_named(given.prefix) {
         return Ok(None);
     }
@@ -115,7 +121,7 @@ pub fn gate_options(
         return Ok(None);
     }
     Ok(Some(Options {
-        netlist: netlist_options(alloc, netlist, given)?,
+        netlist: netlist_options(alloc, accept, netlist, given)?,
         prefix: prefix(alloc, given.prefix)?,
         test: name(alloc, given.test)?,
         settings,
@@ -124,16 +130,18 @@ pub fn gate_options(
     }))
 }
 
-/// How a netlist of this name is read, with the clock that is given.
+/// How a netlist of this name is read, with the clock that is given, where so much is accepted.
 fn netlist_options(
     alloc: Global,
+    accept: Accept,
     netlist: &str,
     given: &OptionWords<'_>,
 ) -> Result<NetlistOptions, AllocError>
     requires { IsTrue (is_named (values_of given.now).clock) }
-    ensures { IfOk result (λ options. options ≡ record { form = form_of netlist.now; clock = (values_of given.now).clock }) }
+    ensures { IfOk result (λ options. options ≡ record { accept = accept; form = form_of netlist.now; clock = (values_of given.now).clock }) }
 {
     Ok(NetlistOptions {
+        accept,
         form: form_of(netlist),
         clock: name(alloc, given.clock)?,
     })
@@ -162,10 +170,13 @@ pub fn sim_options(
     let Some(watch) = watch(watchers, given.watch) else {
         return Ok(None);
     };
+    let Some(accept) = accept(given.accept) else {
+        return Ok(None);
+    };
     if !is_named(given.clock) || has_gate_options(given) {
         return Ok(None);
     }
-    let netlist = netlist_options(alloc, netlist, given)?;
+    let netlist = netlist_options(alloc, accept, netlist, given)?;
     let plain = no_options(alloc)?;
     Ok(Some(Options {
         netlist,
@@ -209,6 +220,7 @@ pub fn has_options(given: &OptionWords<'_>) -> bool
         || given.watch.is_some()
         || given.vcd.is_some()
         || given.random.is_some()
+        || given.accept.is_some()
         || has_gate_options(given)
 }
 

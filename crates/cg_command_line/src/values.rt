@@ -25,6 +25,7 @@ pub struct OptionWords<'a> {
     pub prefix: Option<&'a str>,
     pub test: Option<&'a str>,
     pub watch: Option<&'a str>,
+    pub accept: Option<&'a str>,
 }
 
 /// Those that the matches of the command have.
@@ -47,5 +48,6 @@ pub fn given<'a>(matches: &ArgMatches<'a>) -> OptionWords<'a>
         prefix: matches.get_str("prefix"),
         test: matches.get_str("test"),
         watch: matches.get_str("watch"),
+        accept: matches.get_str("accept"),
     }
 }

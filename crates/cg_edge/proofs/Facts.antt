@@ -21,8 +21,8 @@ all_at P xs k x all at = subst P (get_or_from_slice_get xs k x x at) (all k x (s
 
 module _ (c : Circuit) (good : IsWellFormed c) where
   -- nets that are used are nets
-  used_within : (n : ℕ) → n ≡ length c.names → (x : ℕ) → is_in (used_nets c) x ≡ true → x < n
-  used_within n is x among = let below = All-member (λ net. net < length c.names) (used_nets c) x good.used among in omega (arith, below, is)
+  pub used_net : (n : ℕ) → n ≡ length c.names → (x : ℕ) → is_in (used_nets c) x ≡ true → x < n
+  used_net n is x among = let below = All-member (λ net. net < length c.names) (used_nets c) x good.used among in omega (arith, below, is)
 
   pub given_net : (n : ℕ) → n ≡ length c.names → (x : ℕ) → is_in (given_nets c) x ≡ true → x < n
   given_net n is x among = let below = driver_within c good.driven x (given_driver c x among) in omega (arith, below, is)
@@ -38,7 +38,7 @@ module _ (c : Circuit) (good : IsWellFormed c) where
     register_fits = all_at RegisterFits c.registers k r good.fitting at
 
     pub register_inputs : (n : ℕ) → n ≡ length c.names → All (λ net. net < n) r.inputs
-    register_inputs n is = All-from_members (λ net. net < n) r.inputs (λ x among. used_within n is x (data_is_used c k x r at among))
+    register_inputs n is = All-from_members (λ net. net < n) r.inputs (λ x among. used_net n is x (data_is_used c k x r at among))
 
     pub register_clocked : is_in (clock_nets c) r.clock ≡ true
     register_clocked = all_at (λ (r : RegisterCell ℕ ℕ). is_in (clock_nets c) r.clock ≡ true) c.registers k r good.clocked at
@@ -54,7 +54,7 @@ module _ (c : Circuit) (good : IsWellFormed c) where
     cell_over = all_at (λ (cell : LogicCell ℕ). IsOver (length cell.inputs) cell.function) c.cells k cell good.functions at
 
     pub cell_inputs : (n : ℕ) → n ≡ length c.names → All (λ net. net < n) cell.inputs
-    cell_inputs n is = All-from_members (λ net. net < n) cell.inputs (λ x among. used_within n is x (input_is_used c k x cell at among))
+    cell_inputs n is = All-from_members (λ net. net < n) cell.inputs (λ x among. used_net n is x (input_is_used c k x cell at among))
 
     pub cell_output : (n : ℕ) → n ≡ length c.names → cell.output < n
     cell_output n is =
@@ -72,7 +72,7 @@ module _ (c : Circuit) (good : IsWellFormed c) where
     gater_output n is = given_net n is gater.output (gater_given c gater.output gater_among)
 
     pub gater_asked : (n : ℕ) → n ≡ length c.names → (x : ℕ) → is_in (asked_nets gater) x ≡ true → x < n
-    gater_asked n is x among = used_within n is x (asked_is_used c k x gater at among)
+    gater_asked n is x among = used_net n is x (asked_is_used c k x gater at among)
 
   pub data_no_cell : (x : ℕ) → is_in (data_inputs c) x ≡ true → is_in (cell_nets c) x ≡ false
   data_no_cell x among = given_no_cell c good.driven x (data_given c x among)

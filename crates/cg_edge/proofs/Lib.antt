@@ -1,6 +1,7 @@
 pub mod Added
 pub mod Bits
 pub mod Chained
+pub mod Controlled
 pub mod Facts
 pub mod Filled
 pub mod Follows
@@ -12,6 +13,7 @@ pub mod Marked
 pub mod Moved
 pub mod Puts
 pub mod Reading
+pub mod Resting
 pub mod Rows
 pub mod InRuns
 pub mod Stepped
@@ -20,3 +22,7 @@ pub mod Walk
 pub mod Written
 pub mod Shown
 pub mod Wired
+pub mod WireRanks
+pub mod LineOrder
+pub mod LineMade
+pub mod Swept

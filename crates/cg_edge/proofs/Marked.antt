@@ -18,7 +18,7 @@ use Rattle.cg_edge.proofs.Follows.{clock_no_cell}
 use Rattle.cg_edge.proofs.Walk.{one_cell, ordered_at, walked}
 
 -- a cell that does not read a net has the same inputs after a write there
-same_inputs : (nets : List Bool) (net : ℕ) (b : Bool) (inputs : List ℕ) → is_in inputs net ≡ false → values_at (slice_set nets net b) inputs ≡ values_at nets inputs
+pub same_inputs : (nets : List Bool) (net : ℕ) (b : Bool) (inputs : List ℕ) → is_in inputs net ≡ false → values_at (slice_set nets net b) inputs ≡ values_at nets inputs
 same_inputs nets net b inputs apart = same_values (slice_set nets net b) nets inputs (λ x among. slice_get-set_other nets net x b (λ e. both_ways (is_in inputs net) apart (ap (is_in inputs) (sym e) ∙ among)))
 
 holds_apart : (cell : LogicCell ℕ) (nets : List Bool) (net : ℕ) (b : Bool) → cell.output ≢ net → is_in cell.inputs net ≡ false → Holds cell nets → Holds cell (slice_set nets net b)

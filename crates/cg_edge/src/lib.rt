@@ -21,6 +21,9 @@
 //! - `put`: the data inputs and the registers' bits at their nets.
 //! - `register_step`: which registers rise, and their next bits.
 //! - `settle`: the logic cells, of which those are looked at that have a changed input, or all.
+//! - `line`: all nets that follow from others within a moment, in one order.
+//! - `sweep`: all of them, looked at in that order.
+//! - `rest`: the bits that the controls of registers force.
 //! - `latch_step`: the latches of gating cells.
 //! - `moment`: from one moment to the next.
 //! - `simulator`: the simulator.
@@ -30,6 +33,7 @@ mod clock_nets;
 mod filling;
 mod flat;
 mod latch_step;
+mod line;
 mod marks;
 mod moment;
 mod narrow;
@@ -38,9 +42,11 @@ mod put;
 mod readers;
 mod reads;
 mod register_step;
+mod rest;
 mod runs;
 mod schedule;
 mod settle;
 pub mod simulator;
+mod sweep;
 mod table;
 mod wire;

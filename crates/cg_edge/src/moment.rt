@@ -14,6 +14,7 @@ use crate::marks::Marks;
 use crate::present::Bits;
 use crate::put::{put_inputs, put_registers};
 use crate::register_step::step;
+use crate::rest::rest;
 use crate::schedule::Schedule;
 use crate::settle::settle;
 
@@ -95,5 +96,14 @@ pub(crate) fn advance(
     move_registers(schedule, ticked, before, nets, state, &mut bits.rose, marks);
     put_inputs(netlist, &schedule.readers, inputs, nets, marks);
     settle(schedule, nets, marks, &mut bits.scratch);
+    rest(
+        schedule,
+        &mut bits.held,
+        &mut bits.forced,
+        nets,
+        state,
+        marks,
+        &mut bits.scratch,
+    );
     follow(netlist, nets, latches);
 }

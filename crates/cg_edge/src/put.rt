@@ -165,7 +165,7 @@ fn put_shown(
 }
 
 /// What an output of a register with this bit shows.
-fn shown(bit: bool, inverse: bool) -> bool
+pub(crate) fn shown(bit: bool, inverse: bool) -> bool
     ensures { result ≡ (if inverse then not bit else bit) }
 {
     if inverse { !bit } else { bit }

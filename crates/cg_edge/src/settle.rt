@@ -87,7 +87,12 @@ fn sweep(schedule: &Schedule<'_>, nets: &mut [bool], scratch: &mut [bool]) -> us
 }
 
 /// Puts at its output the function of the inputs of the cell at a place in walk order. Answers whether that is another bit.
-fn refresh(schedule: &Schedule<'_>, place: usize, nets: &mut [bool], scratch: &mut [bool]) -> bool
+pub(crate) fn refresh(
+    schedule: &Schedule<'_>,
+    place: usize,
+    nets: &mut [bool],
+    scratch: &mut [bool],
+) -> bool
     requires schedule { IsSchedule schedule.now }
     requires place { place < length schedule.now.order.now }
     requires nets { length nets.old ≡ length schedule.now.netlist.now.names }

@@ -12,9 +12,10 @@ use Rattle.cg_netlist.specs.Wiring.{map_cell, map_register}
 use Rattle.cg_net.specs.Names.{net_name}
 use Rattle.cg_netlist.specs.Circuit.{Circuit, LogicCell, RegisterCell, cell_nets, clock_nets, data_inputs, gater_outputs}
 use Rattle.cg_net.specs.NetSets.{is_in}
-use Rattle.cg_netlist.specs.Circuit.{register_nets, used_nets}
+use Rattle.cg_netlist.specs.Circuit.{register_nets, shown_nets, used_nets}
+use Rattle.cg_netlist.specs.Moment.{is_controlled}
 use Rattle.cg_netlist.specs.Netlist.{IsNetlist}
-use Rattle.cg_netlist.specs.WellFormed.{AreRanks, IsInNetOrder, IsOver, IsWellFormed, RegisterFits}
+use Rattle.cg_netlist.specs.WellFormed.{AreControlRanks, AreRanks, IsInNetOrder, IsOver, IsWellFormed, RegisterFits}
 use Rattle.cg_netlist.proofs.Driven.{driven_in_order}
 use Rattle.cg_net.proofs.DifferentNames.{same_net}
 use Rattle.cg_net.proofs.TableLemmas.{mapped_at}
@@ -22,13 +23,14 @@ use Rattle.cg_netlist.proofs.RegisterKept.{register_kept}
 use Rattle.cg_netlist.proofs.Given.{from_option}
 use Rattle.cg_net.proofs.Members.{All-from_members, is_in_left, member_at, one_place}
 use Rattle.cg_netlist.proofs.NetOrder.{from_mapped, in_mapped, outputs_renumbered, places_in_order, registers_renumbered}
+use Rattle.cg_netlist.proofs.NetOrder.{shown_renumbered}
 use Rattle.cg_netlist.proofs.OrderedForm.{clock_nets_is, filter_mapped, four_mapped, option_renumbered, used_is}
-use Rattle.cg_netlist.proofs.Used.{input_is_used, output_is_used}
+use Rattle.cg_netlist.proofs.Used.{control_is_used, input_is_used, output_is_used, shown_is_driven}
 use Rattle.cg_machine.proofs.Started.{start_is_machine}
 use Rattle.cg_machine.specs.Machine.{IsMachine}
 use Rattle.cg_machine.specs.Start.{CanStart, begins, machine_of}
 use Rattle.cg_extract.proofs.Kept.{cell_kept, clock_list_kept, clock_there, input_kept, kept_within, order_long, order_once, placed}
-use Rattle.cg_extract.proofs.Kept.{same_number, still_used, used_kept}
+use Rattle.cg_extract.proofs.Kept.{register_kept as shown_kept, same_number, still_used, used_kept}
 use Rattle.cg_extract.proofs.Renumbered.{distinct_mapped, find_none, mapped_same, none_found}
 use Rattle.cg_extract.specs.Lifted.{CanExtract, bare, kept_nets, number_of, on_clock, ungated}
 
@@ -103,6 +105,52 @@ module _ (c : Circuit) (whole : IsNetlist c) where
         good.ranked.rising j k old_j.0 old_k.0 old_j.1 old_k.1 (ap (is_in old_k.0.inputs) (sym same) ∙ found.1);
   }
 
+  -- registers as they were, and nets that they had
+  register_back : (k : ℕ) (r : RegisterCell ℕ ℕ) → slice_get (map (map_register f) u.registers) k ≡ Some r → (old : RegisterCell ℕ ℕ) × (slice_get c.registers k ≡ Some old) × (map_register f (on_clock c old) ≡ r)
+  register_back k r at =
+      let a = mapped_at (map_register f) (slice_get u.registers k) r (sym (slice_get-map (map_register f) u.registers k) ∙ at) in
+      let b = mapped_at (on_clock c) (slice_get c.registers k) a.0 (sym (slice_get-map (on_clock c) c.registers k) ∙ a.1) in
+      (b.0, b.1, ap (map_register f) b.2 ∙ a.2)
+
+  same_mapped : (xs ys : List ℕ) (x : ℕ) → is_in (map f xs) x ≡ true → is_in (map f ys) x ≡ true → ((y : ℕ) → is_in xs y ≡ true → is_in (kept_nets c) y ≡ true) → ((y : ℕ) → is_in ys y ≡ true → is_in (kept_nets c) y ≡ true)
+      → (z : ℕ) × (is_in xs z ≡ true) × (is_in ys z ≡ true)
+  same_mapped xs ys x here there xs_kept ys_kept =
+      let a = from_mapped f xs x here in
+      let b = from_mapped f ys x there in
+      let same : b.0 ≡ a.0 = same_number c whole b.0 a.0 (ys_kept b.0 b.1) (xs_kept a.0 a.1) (b.2 ∙ sym a.2) in
+      (a.0, a.1, ap (is_in ys) (sym same) ∙ b.1)
+
+  shown_back : (old r : RegisterCell ℕ ℕ) (x : ℕ) → map_register f (on_clock c old) ≡ r → is_in (shown_nets r) x ≡ true → is_in (map f (shown_nets old)) x ≡ true
+  shown_back old r x is shows = ap (λ xs. is_in xs x) (sym (shown_renumbered f old.outputs)) ∙ (ap (λ (q : RegisterCell ℕ ℕ). is_in (shown_nets q) x) is ∙ shows)
+
+  shown_stays : (k : ℕ) (r : RegisterCell ℕ ℕ) → slice_get c.registers k ≡ Some r → (y : ℕ) → is_in (shown_nets r) y ≡ true → is_in (kept_nets c) y ≡ true
+  shown_stays k r at y among = shown_kept c whole y (shown_is_driven c k y r at among)
+
+  asked_stays : (k : ℕ) (r : RegisterCell ℕ ℕ) → slice_get c.registers k ≡ Some r → (y : ℕ) → is_in r.controls y ≡ true → is_in (kept_nets c) y ≡ true
+  asked_stays k r at y among = used_kept c whole y (control_is_used c k y r at among)
+
+  forcing : AreControlRanks (bare c) good.ranks good.control_ranks
+  forcing = record {
+    count = good.forcing.count ∙ sym (length-map u.registers (map_register f) ∙ length-map c.registers (on_clock c));
+    after_cell = λ j k cell r j_at k_at among.
+        let old_j = mapped_at (map_cell f) (slice_get c.cells j) cell (sym (slice_get-map (map_cell f) c.cells j) ∙ j_at) in
+        let old_k = register_back k r k_at in
+        let in_old : is_in (map f old_k.0.controls) (f old_j.0.output) ≡ true = ap (λ (q : RegisterCell ℕ ℕ). is_in q.controls (f old_j.0.output)) old_k.2 ∙ (ap (λ c. is_in r.controls c.output) old_j.2 ∙ among) in
+        let found = from_mapped f old_k.0.controls (f old_j.0.output) in_old in
+        let same : found.0 ≡ old_j.0.output = same_number c whole found.0 old_j.0.output (asked_stays k old_k.0 old_k.1 found.0 found.1) (cell_kept c whole j old_j.0 old_j.1) found.2 in
+        good.forcing.after_cell j k old_j.0 old_k.0 old_j.1 old_k.1 (ap (is_in old_k.0.controls) (sym same) ∙ found.1);
+    before_cell = λ j k x r cell j_at k_at is shows among.
+        let old_j = register_back j r j_at in
+        let old_k = mapped_at (map_cell f) (slice_get c.cells k) cell (sym (slice_get-map (map_cell f) c.cells k) ∙ k_at) in
+        let found = same_mapped (shown_nets old_j.0) old_k.0.inputs x (shown_back old_j.0 r x old_j.2 shows) (ap (λ c. is_in c.inputs x) old_k.2 ∙ among) (shown_stays j old_j.0 old_j.1) (λ y here. used_kept c whole y (input_is_used c k y old_k.0 old_k.1 here)) in
+        good.forcing.before_cell j k found.0 old_j.0 old_k.0 old_j.1 old_k.1 (ap (λ (q : RegisterCell ℕ ℕ). is_controlled q.kind) old_j.2 ∙ is) found.1 found.2;
+    after_register = λ j k x driver r j_at k_at is shows among.
+        let old_j = register_back j driver j_at in
+        let old_k = register_back k r k_at in
+        let found = same_mapped (shown_nets old_j.0) old_k.0.controls x (shown_back old_j.0 driver x old_j.2 shows) (ap (λ (q : RegisterCell ℕ ℕ). is_in q.controls x) old_k.2 ∙ among) (shown_stays j old_j.0 old_j.1) (asked_stays k old_k.0 old_k.1) in
+        good.forcing.after_register j k found.0 old_j.0 old_k.0 old_j.1 old_k.1 (ap (λ (q : RegisterCell ℕ ℕ). is_controlled q.kind) old_j.2 ∙ is) found.1 found.2;
+  }
+
   -- the registers
   register_fits : (r : RegisterCell ℕ ℕ) → RegisterFits r → RegisterFits (map_register f (on_clock c r))
   register_fits r fits = register_kept f (on_clock c r) (record { kind = kind_fits r fits; pins = fits.pins; init = fits.init })
@@ -134,6 +182,8 @@ module _ (c : Circuit) (whole : IsNetlist c) where
     driven = driven_in_order (bare c) in_order;
     ranks = good.ranks;
     ranked = ranked;
+    control_ranks = good.control_ranks;
+    forcing = forcing;
     numbers = [];
     chained = record { count = refl; chained = λ k gater at. absurd (cc) };
     clocked = All-map (λ r. is_in (clock_nets (bare c)) r.clock ≡ true) (map_register f) u.registers (All-map (λ r. is_in (clock_nets (bare c)) (f r.clock) ≡ true) (on_clock c) c.registers

@@ -7,7 +7,7 @@ use Rattle.std.proofs.lemmas.Bool.{both_ways, false_from_ne_true}
 use Rattle.std.proofs.lemmas.List.{append-nil, length-append, length-map}
 use Rattle.std.proofs.lemmas.Option.{same_Some}
 use Rattle.cg_netlist.specs.Circuit.{Circuit, GatingCell, LogicCell, RegisterCell, asked_nets, cell_nets, clock_nets, data_inputs}
-use Rattle.cg_netlist.specs.Circuit.{gater_outputs, net_order, register_nets, shown_nets, used_nets}
+use Rattle.cg_netlist.specs.Circuit.{gater_outputs, net_order, read_nets, register_nets, shown_nets, used_nets}
 use Rattle.cg_net.specs.NetSets.{is_in}
 use Rattle.cg_netlist.specs.Netlist.{IsNetlist}
 use Rattle.cg_netlist.specs.WellFormed.{IsWellFormed}
@@ -25,9 +25,9 @@ pub shown_on_clock : (c : Circuit) (rs : List (RegisterCell ℕ ℕ)) → flat_m
 shown_on_clock c [] = refl
 shown_on_clock c (r ∷ rs) = ap (λ xs. shown_nets r ++ xs) (shown_on_clock c rs)
 
-pub inputs_on_clock : (c : Circuit) (rs : List (RegisterCell ℕ ℕ)) → flat_map (λ r. r.inputs) (map (on_clock c) rs) ≡ flat_map (λ r. r.inputs) rs
-inputs_on_clock c [] = refl
-inputs_on_clock c (r ∷ rs) = ap (λ xs. r.inputs ++ xs) (inputs_on_clock c rs)
+pub reads_on_clock : (c : Circuit) (rs : List (RegisterCell ℕ ℕ)) → flat_map (λ r. read_nets r) (map (on_clock c) rs) ≡ flat_map (λ r. read_nets r) rs
+reads_on_clock c [] = refl
+reads_on_clock c (r ∷ rs) = ap (λ xs. read_nets r ++ xs) (reads_on_clock c rs)
 
 module _ (c : Circuit) (whole : IsNetlist c) where
   abbrev good : IsWellFormed c
@@ -122,11 +122,11 @@ module _ (c : Circuit) (whole : IsNetlist c) where
   still_used x among =
       let a : List ℕ = flat_map (λ cell. cell.inputs) c.cells in
       let b : List ℕ = flat_map asked_nets c.gaters in
-      let d : List ℕ = flat_map (λ r. r.inputs) c.registers in
-      elim (is_in_cases (a ++ [] ++ flat_map (λ r. r.inputs) (map (on_clock c) c.registers)) c.outputs x among) [
-        | inl more ↦ is_in_left (a ++ b ++ d) c.outputs x (elim (is_in_cases (a ++ []) (flat_map (λ r. r.inputs) (map (on_clock c) c.registers)) x more) [
+      let d : List ℕ = flat_map (λ r. read_nets r) c.registers in
+      elim (is_in_cases (a ++ [] ++ flat_map (λ r. read_nets r) (map (on_clock c) c.registers)) c.outputs x among) [
+        | inl more ↦ is_in_left (a ++ b ++ d) c.outputs x (elim (is_in_cases (a ++ []) (flat_map (λ r. read_nets r) (map (on_clock c) c.registers)) x more) [
           | inl cell ↦ is_in_left (a ++ b) d x (is_in_left a b x (sym (ap (λ xs. is_in xs x) (append-nil a)) ∙ cell))
-          | inr register ↦ is_in_right (a ++ b) d x (sym (ap (λ xs. is_in xs x) (inputs_on_clock c c.registers)) ∙ register)
+          | inr register ↦ is_in_right (a ++ b) d x (sym (ap (λ xs. is_in xs x) (reads_on_clock c c.registers)) ∙ register)
         ])
         | inr output ↦ is_in_right (a ++ b ++ d) c.outputs x output
       ]

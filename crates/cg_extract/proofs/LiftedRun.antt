@@ -7,15 +7,16 @@ use Rattle.std.proofs.lemmas.Option.{slice_get-map, slice_get_within}
 use Rattle.cg_netlist.specs.Circuit.{Circuit, RegisterCell}
 use Rattle.cg_netlist.specs.History.{AreTicks, IsLawful, LawfulFrom, Moment, MomentFollows, Tick, gater_bit, next_bit, next_value}
 use Rattle.cg_netlist.specs.History.{outputs_of}
-use Rattle.cg_netlist.specs.Moment.{bit, values_at, zip_with}
+use Rattle.cg_netlist.specs.Moment.{bit, forced_bit, forced_state, forced_value, values_at, zip_with}
 use Rattle.cg_netlist.specs.Wiring.{map_register}
-use Rattle.cg_netlist.proofs.Used.{data_is_used, output_is_used}
+use Rattle.cg_netlist.proofs.Used.{control_is_used, data_is_used, output_is_used}
 use Rattle.cg_netlist.proofs.Values.{bit_shown, element_at, length-zip_with, same_places, zip_with_at}
 use Rattle.cg_machine.proofs.Bits.{each_get, length-each}
-use Rattle.cg_machine.specs.Machine.{MachineData, enable_of, load, next, next_of, outputs_at, step, values}
+use Rattle.cg_machine.proofs.Forcing.{rest_once}
+use Rattle.cg_machine.specs.Machine.{MachineData, at_rest, enable_of, load, next, next_of, outputs_at, step, values}
 use Rattle.cg_machine.specs.Run.{shown_from, state_now, states_from}
-use Rattle.cg_extract.proofs.LiftedMachine.{enable_is, start_count}
-use Rattle.cg_extract.proofs.LiftedMoments.{shown_values}
+use Rattle.cg_extract.proofs.LiftedMachine.{enable_is, lifted_is_machine, start_count}
+use Rattle.cg_extract.proofs.LiftedMoments.{is_inputs, shown_values}
 use Rattle.cg_extract.proofs.LiftedRises.{Tells, register_rises, tells}
 use Rattle.cg_extract.proofs.Lifts.{lifting_lifts}
 use Rattle.cg_extract.specs.Laws.{LiftedIsRun}
@@ -41,6 +42,23 @@ module _ (c : Circuit) (prefix : List ℕ) (can : CanExtract c prefix) (untested
   outputs_same k q is =
       sym (shown_values c prefix can k.clock k.inputs q.state (zip_with (gater_bit q.nets) c.gaters q.latches) q.nets is.settles is.state_long is.inputs_long c.outputs (λ x among. output_is_used c x among))
       ∙ ap (values_at (values m q.state k.inputs)) (sym (lifting_lifts c prefix can).extends.outputs)
+
+  -- what a moment's nets force is at rest
+  rested : (k : Tick) (q : Moment) → Tells c prefix can untested k q → (held : List Bool) → length held ≡ length c.registers → q.state ≡ forced_state c q.nets held → q.state ≡ at_rest m held k.inputs
+  rested k q is held long forced =
+      let ms : List Bool = values m q.state k.inputs in
+      let left : length (forced_state c q.nets held) ≡ length c.registers = length-zip_with (forced_bit q.nets) c.registers held (sym long) in
+      let right : length (forced_state m.circuit ms held) ≡ length m.circuit.registers = length-zip_with (forced_bit ms) m.circuit.registers held (registers_long ∙ sym long) in
+      let gates : List Bool = zip_with (gater_bit q.nets) c.gaters q.latches in
+      rest_once m (lifted_is_machine c prefix can) held k.inputs (long ∙ sym registers_long) (is_inputs c prefix can k.clock k.inputs q.state gates q.nets is.settles is.state_long is.inputs_long) q.state
+      (forced ∙ same_places (forced_state c q.nets held) (forced_state m.circuit ms held) (left ∙ sym (right ∙ registers_long)) (λ r below.
+      let within : r < length c.registers = omega (arith, below, left) in
+      let cell : (cell : RegisterCell ℕ ℕ) × (slice_get c.registers r ≡ Some cell) = element_at c.registers r within in
+      let own : (b : Bool) × (slice_get held r ≡ Some b) = element_at held r (omega (arith, within, long)) in
+      zip_with_at (forced_bit q.nets) c.registers held r cell.0 own.0 cell.1 own.1
+      ∙ (ap (λ bits. Some (forced_value cell.0.kind bits own.0))
+      (sym (shown_values c prefix can k.clock k.inputs q.state gates q.nets is.settles is.state_long is.inputs_long cell.0.controls (λ x among. control_is_used c r x cell.0 cell.1 among)))
+      ∙ sym (zip_with_at (forced_bit ms) m.circuit.registers held r (map_register f (on_clock c cell.0)) own.0 (register_is r cell.0 cell.1) own.1))))
 
   -- two moments running
   module _ (start : List Bool) (kp k : Tick) (p q : Moment) (before : Tells c prefix can untested kp p) (moves : MomentFollows c start (Some p) k q) (now : Tells c prefix can untested k q) where
@@ -73,8 +91,9 @@ module _ (c : Circuit) (prefix : List ℕ) (can : CanExtract c prefix) (untested
         ∙ (ap (λ bits. Some (if loaded cell then next_value cell.kind bits (bit p.state r) else bit p.state r)) inputs
         ∙ ap (λ b. Some (if loaded cell then next_value cell.kind (values_at p.nets cell.inputs) b else b)) own_is)))
 
-    state_same : q.state ≡ state_now m (Some kp) p.state k
-    state_same = moves.state ∙ go (not kp.clock && k.clock) refl
+    -- what the registers hold
+    held_same : zip_with (next_bit p.nets q.nets) c.registers p.state ≡ (if not kp.clock && k.clock then step m p.state kp.inputs else p.state)
+    held_same = go (not kp.clock && k.clock) refl
       where
         place : (r : ℕ) → r < length c.registers → (cell : RegisterCell ℕ ℕ) × (own : Bool) × (slice_get c.registers r ≡ Some cell) × (slice_get p.state r ≡ Some own)
         place r within =
@@ -94,6 +113,11 @@ module _ (c : Circuit) (prefix : List ℕ) (can : CanExtract c prefix) (untested
             ∙ (ap (λ z. Some (if z && loaded e.0 then next_value e.0.kind (values_at p.nets e.0.inputs) e.1 else e.1)) is
             ∙ sym e.3))
 
+    state_same : q.state ≡ state_now m (Some kp) p.state k
+    state_same =
+        rested k q now (if not kp.clock && k.clock then step m p.state kp.inputs else p.state) (ap length (sym held_same) ∙ moved_long)
+        (moves.state ∙ ap (forced_state c q.nets) held_same)
+
   -- from a moment on
   run_from : (start : List Bool) (kp : Tick) (p : Moment) (wave : List Tick) (history : List Moment) → Tells c prefix can untested kp p → AreTicks c wave → LawfulFrom c start (Some p) wave history
       → (map (λ q. q.state) history ≡ states_from m (Some kp) p.state wave) × (outputs_of c history ≡ shown_from m (Some kp) p.state wave)
@@ -101,7 +125,8 @@ module _ (c : Circuit) (prefix : List ℕ) (can : CanExtract c prefix) (untested
   run_from start kp p [] (q ∷ history) before ticks lawful = absurd lawful
   run_from start kp p (k ∷ wave) [] before ticks lawful = absurd lawful
   run_from start kp p (k ∷ wave) (q ∷ history) before ticks lawful =
-      let long : length q.state ≡ length c.registers = ap length lawful.0.state ∙ length-zip_with (next_bit p.nets q.nets) c.registers p.state (sym before.state_long) in
+      let held : length (zip_with (next_bit p.nets q.nets) c.registers p.state) ≡ length c.registers = length-zip_with (next_bit p.nets q.nets) c.registers p.state (sym before.state_long) in
+      let long : length q.state ≡ length c.registers = ap length lawful.0.state ∙ length-zip_with (forced_bit q.nets) c.registers (zip_with (next_bit p.nets q.nets) c.registers p.state) (sym held) in
       let now : Tells c prefix can untested k q = tells c prefix can untested start (Some p) k q lawful.0 before.latches_long ticks.0 long in
       let same : q.state ≡ state_now m (Some kp) p.state k = state_same start kp k p q before lawful.0 now in
       let rest = run_from start k q wave history now ticks.1 lawful.1 in (
@@ -116,8 +141,9 @@ module _ (c : Circuit) (prefix : List ℕ) (can : CanExtract c prefix) (untested
   history_runs start [] (q ∷ history) long ticks lawful = absurd lawful
   history_runs start (k ∷ wave) [] long ticks lawful = absurd lawful
   history_runs start (k ∷ wave) (q ∷ history) long ticks lawful =
-      let same : q.state ≡ start = lawful.0.state in
-      let now : Tells c prefix can untested k q = tells c prefix can untested start None k q lawful.0 (length-replicate (length c.gaters) false) ticks.0 (ap length same ∙ long) in
+      let count : length q.state ≡ length c.registers = ap length lawful.0.state ∙ length-zip_with (forced_bit q.nets) c.registers start (sym long) in
+      let now : Tells c prefix can untested k q = tells c prefix can untested start None k q lawful.0 (length-replicate (length c.gaters) false) ticks.0 count in
+      let same : q.state ≡ at_rest m start k.inputs = rested k q now start long lawful.0.state in
       let rest = run_from start k q wave history now ticks.1 lawful.1 in (
         ap (λ l. q.state ∷ l) rest.0 ∙ ap (λ u. u ∷ states_from m (Some k) u wave) same,
         ap (λ l. values_at q.nets c.outputs ∷ l) rest.1 ∙ (ap (λ o. o ∷ shown_from m (Some k) q.state wave) (outputs_same k q now)

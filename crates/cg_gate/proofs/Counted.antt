@@ -14,7 +14,8 @@ use Rattle.cg_extract.specs.Lifted.{CanExtract, HasNoTests, kept_nets, lifted, n
 use Rattle.cg_gate.proofs.LiftedInputs.{lifted_inputs}
 use Rattle.cg_stage_list_laws.specs.Literals.{ZeroCounts, AreZeroCounts}
 use Rattle.cg_machine.proofs.Bits.{length-each}
-use Rattle.cg_machine.specs.Machine.{MachineData, next, step, values}
+use Rattle.cg_machine.proofs.Forcing.{rest_long}
+use Rattle.cg_machine.specs.Machine.{MachineData, at_rest, next, step, values}
 use Rattle.cg_machine.specs.Run.{state_now, states_from}
 use Rattle.cg_netlist.specs.Circuit.{Circuit, data_inputs}
 use Rattle.cg_net.specs.NetSets.{is_in}
@@ -60,6 +61,9 @@ more_lows nets lows k = sum_by-cons (λ (v : List Bool). cond (not (bit v k)) 1 
 more_moments : (now : Moment) (moments : List Moment) (x : ℕ) → zeros_of x (now ∷ moments) ≡ cond (not (bit now.nets x)) 1 0 + zeros_of x moments
 more_moments now moments x = sum_by-cons (λ (q : Moment). cond (not (bit q.nets x)) 1 0) now moments
 
+cons_parts : {X : Type 0} (a b : X) (xs ys : List X) → ◌≡◌ {A = List X} (a ∷ xs) (b ∷ ys) → (a ≡ b) × (xs ≡ ys)
+cons_parts a b xs ys is = (cc, cc)
+
 module _ (c : Circuit) (prefix : List ℕ) (can : CanExtract c prefix) where
   abbrev m : MachineData
   m = lifted c prefix
@@ -70,13 +74,16 @@ module _ (c : Circuit) (prefix : List ℕ) (can : CanExtract c prefix) where
   step_long : (s inputs : List Bool) → length (step m s inputs) ≡ length c.registers
   step_long s inputs = length-each m (next m (values m s inputs) s) ∙ (lifted_is_small c prefix can).1
 
+  held_long : (s inputs : List Bool) → length s ≡ length c.registers → length (at_rest m s inputs) ≡ length c.registers
+  held_long s inputs long = rest_long m s inputs (long ∙ sym (lifted_is_small c prefix can).1) ∙ (lifted_is_small c prefix can).1
+
   row_is : (row : List Bool) → row_inputs m row ≡ row ++ replicate (width - length row) false
   row_is row = ap (λ w. row ++ replicate (w - length row) false) (lifted_inputs c prefix can)
 
   -- a net is 0 as often as the one of the machine
   module _ (x : ℕ) (kept : is_in (kept_nets c) x ≡ true) where
     lows_count : (start : List Bool) (b : Option Moment) (prev : Option Tick) (s before : List Bool) (rows : List (List Bool)) (history : List Moment)
-        → ((tick : Tick) → tick.clock ≡ false → state_now m prev s tick ≡ s) → length s ≡ length c.registers → AreTicks c (wave_from width before rows) → LawfulFrom c start b (wave_from width before rows) history
+        → ((tick : Tick) → tick.clock ≡ false → state_now m prev s tick ≡ at_rest m s tick.inputs) → length s ≡ length c.registers → AreTicks c (wave_from width before rows) → LawfulFrom c start b (wave_from width before rows) history
         → map (λ (now : Moment). now.state) history ≡ states_from m prev s (wave_from width before rows) → zeros_at (lows_from m s rows) (number_of c x) ≡ zeros_of x (low_moments history)
     lows_count start b prev s before [] [] stays long ticks lawful states = absurd lawful
     lows_count start b prev s before [] (now ∷ []) stays long ticks lawful states = refl
@@ -89,16 +96,18 @@ module _ (c : Circuit) (prefix : List ℕ) (can : CanExtract c prefix) where
         let inputs : List Bool = row ++ replicate (width - length row) false in
         let k : ℕ = number_of c x in
         let one : List Bool = state_now m prev s low in
-        let two : List Bool = step m one inputs in
-        let first : now.state ≡ one = cc in
-        let rest : map (λ (q : Moment). q.state) history ≡ states_from m (Some high) two (wave_from width row rows) = cc in
-        let same : now.state ≡ s = first ∙ stays low refl in
-        let shown : slice_get (values m now.state inputs) k ≡ slice_get now.nets x = lifted_shows_nets c prefix can inputs now.state (zip_with (gater_bit now.nets) c.gaters now.latches) now.nets lawful.0.nets (ap length same ∙ long) ticks.0 x kept in
-        let here : bit (values m s (row_inputs m row)) k ≡ bit now.nets x = ap (λ i. bit (values m s i) k) (row_is row) ∙ (ap (λ z. bit (values m z inputs) k) (sym same) ∙ same_bits (values m now.state inputs) now.nets k x shown) in
-        let steps : step m s (row_inputs m row) ≡ two = ap (step m s) (row_is row) ∙ ap (λ z. step m z inputs) (sym (stays low refl)) in
-        let tail : zeros_at (lows_from m two rows) k ≡ zeros_of x (low_moments history) = lows_count start (Some later) (Some high) two row rows history (λ tick low. refl) (step_long one inputs) ticks.1.1 lawful.1.1 rest in
-        more_lows (values m s (row_inputs m row)) (lows_from m (step m s (row_inputs m row)) rows) k
-        ∙ (ap (λ z. cond (not z) 1 0 + zeros_at (lows_from m (step m s (row_inputs m row)) rows) k) here
+        let two : List Bool = at_rest m (step m one inputs) inputs in
+        let parts = cons_parts now.state one (later.state ∷ map (λ (q : Moment). q.state) history) (two ∷ states_from m (Some high) two (wave_from width row rows)) states in
+        let rest : map (λ (q : Moment). q.state) history ≡ states_from m (Some high) two (wave_from width row rows) = (cons_parts later.state two (map (λ (q : Moment). q.state) history) (states_from m (Some high) two (wave_from width row rows)) parts.1).1 in
+        let still : one ≡ at_rest m s inputs = stays low refl in
+        let same : now.state ≡ at_rest m s inputs = parts.0 ∙ still in
+        let shown : slice_get (values m now.state inputs) k ≡ slice_get now.nets x = lifted_shows_nets c prefix can inputs now.state (zip_with (gater_bit now.nets) c.gaters now.latches) now.nets lawful.0.nets (ap length same ∙ held_long s inputs long) ticks.0 x kept in
+        let here : bit (values m (at_rest m s (row_inputs m row)) (row_inputs m row)) k ≡ bit now.nets x = ap (λ i. bit (values m (at_rest m s i) i) k) (row_is row) ∙ (ap (λ z. bit (values m z inputs) k) (sym same) ∙ same_bits (values m now.state inputs) now.nets k x shown) in
+        let next_held : List Bool = at_rest m (step m (at_rest m s (row_inputs m row)) (row_inputs m row)) (row_inputs m row) in
+        let steps : next_held ≡ two = ap (λ i. at_rest m (step m (at_rest m s i) i) i) (row_is row) ∙ ap (λ z. at_rest m (step m z inputs) inputs) (sym still) in
+        let tail : zeros_at (lows_from m two rows) k ≡ zeros_of x (low_moments history) = lows_count start (Some later) (Some high) two row rows history (λ tick low. refl) (held_long (step m one inputs) inputs (step_long one inputs)) ticks.1.1 lawful.1.1 rest in
+        more_lows (values m (at_rest m s (row_inputs m row)) (row_inputs m row)) (lows_from m next_held rows) k
+        ∙ (ap (λ z. cond (not z) 1 0 + zeros_at (lows_from m next_held rows) k) here
         ∙ (ap (λ n. cond (not (bit now.nets x)) 1 0 + n) (ap (λ t. zeros_at (lows_from m t rows) k) steps ∙ tail)
         ∙ sym (more_moments now (low_moments history) x)))
 

@@ -16,6 +16,7 @@ use Rattle.cg_netlist.specs.Circuit.{Circuit}
 use Rattle.cg_netlist.specs.declared.fault.AddFault.{AddFault}
 use Rattle.cg_netlist.specs.declared.fault.AddFault.TheVariants as faults
 use Rattle.cg_netlist_parts.specs.Writable.{IsPlaceable}
+use Rattle.cg_plan.specs.Lists.{list_counts}
 use Rattle.cg_plan_laws.specs.Plan.{plan_of}
 use Rattle.cg_plan_laws.specs.declared.settings.Settings.{Settings}
 use Rattle.cg_stimulus.specs.Inputs.{IsFor, Rows}
@@ -71,6 +72,10 @@ gating_of request c = record {
   test = request.test;
   hints = hints_of request;
 }
+
+-- how many stages each list of its plan has
+abbrev pub lists_of : RequestData → Circuit → List ℕ
+lists_of request c = list_counts request.library request.settings (gating_of request c).counts (begun_of request c)
 
 -- the limit that something passes
 abbrev pub limit_of : {A : Type 0} → Result A AddFault → Option Limit

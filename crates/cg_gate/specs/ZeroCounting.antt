@@ -5,7 +5,7 @@ use Rattle.std.specs.Prelude.{ℕ, ◌-◌, Bool, false, not, List, [], ◌∷�
 use Rattle.std.specs.List.{count_by}
 use Rattle.cg_extract.specs.Lifted.{lifted, number_of, origins}
 use Rattle.cg_stage_list_laws.specs.Literals.{ZeroCounts}
-use Rattle.cg_machine.specs.Machine.{MachineData, step, values}
+use Rattle.cg_machine.specs.Machine.{MachineData, at_rest, step, values}
 use Rattle.cg_netlist.specs.Circuit.{Circuit, data_inputs}
 use Rattle.cg_netlist.specs.Moment.{bit}
 use Rattle.cg_stimulus.specs.Inputs.{Rows}
@@ -15,10 +15,14 @@ use Rattle.cg_stimulus.specs.Played.{played_start}
 abbrev pub row_inputs : MachineData → List Bool → List Bool
 row_inputs m row = row ++ replicate (length (data_inputs m.circuit) - length row) false
 
--- the bits of the nets at the low moment of each row, from a state
+-- the bits of the nets at the low moment of each row, from what the registers hold before it: at both moments of a row the machine is
+-- at rest with the row's inputs
 abbrev pub lows_from : MachineData → List Bool → List (List Bool) → List (List Bool)
-lows_from m state [] = []
-lows_from m state (row ∷ rows) = values m state (row_inputs m row) ∷ lows_from m (step m state (row_inputs m row)) rows
+lows_from m held [] = []
+lows_from m held (row ∷ rows) =
+    let inputs = row_inputs m row in
+    let state = at_rest m held inputs in
+    values m state inputs ∷ lows_from m (at_rest m (step m state inputs) inputs) rows
 
 -- on how many of these moments a net is 0
 abbrev pub zeros_at : List (List Bool) → ℕ → ℕ

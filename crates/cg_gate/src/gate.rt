@@ -7,8 +7,9 @@ ghost use Rattle.cg_extract.specs.Reading.{read_of};
 ghost use Rattle.cg_gate.specs.Gating.{GivesDemo, GivesGated, SaysDemo, gated_data, told_outcomes, where_asked};
 ghost use Rattle.cg_gate.specs.Left.{AreOthers, TellsLeft, TellsOthers, texts_with};
 ghost use Rattle.cg_gate.specs.Headline.{Headline};
-ghost use Rattle.cg_gate.specs.Request.{MayGate, stops_at, hints_of};
+ghost use Rattle.cg_gate.specs.Request.{MayGate, begun_of, lists_of, stops_at, hints_of};
 ghost use Rattle.cg_gate.specs.Stops.{GatingMayFail, gating_stop, verilog_stop};
+ghost use Rattle.cg_hold.specs.Progress.{AtMostOneCourse, WholeCourse};
 ghost use Rattle.cg_plan_laws.specs.Reported.{PlanMayFail};
 ghost use Rattle.cg_plan.specs.Planning.{told};
 ghost use Rattle.cg_register_text.specs.Words.{IsToldOf};
@@ -91,6 +92,10 @@ pub fn gate(
     ensures headline { IfOk result (λ texts. Headline request.now (option_map (λ watcher. says watcher) watcher) netlist texts) }
     ensures unstopped { OnOk result (gating_stop request.now netlist ≡ None) }
     ensures fault { IfErr result (GatingMayFail (gating_stop request.now netlist)) }
+
+    // One course of the plan is told, or nothing where gating is refused before it; and the whole one where it is not refused.
+    ensures course { AtMostOneCourse (begun_of request.now netlist).own_registers (lists_of request.now netlist) (heard progress.old) (heard progress.new) }
+    ensures whole { OnOk result (WholeCourse (begun_of request.now netlist).own_registers (lists_of request.now netlist) (heard progress.old) (heard progress.new)) }
 {
     let gated = gate_netlist(alloc, netlist, request, progress)?;
     finish(alloc, request, gated, watcher)
@@ -170,6 +175,8 @@ pub fn gate_demo(
     ensures gives { IfOk result (λ text. GivesDemo size request.now netlist text) }
     ensures unstopped { OnOk result (stops_at request.now netlist ≡ None) }
     ensures fault { IfErr result (PlanMayFail (stops_at request.now netlist)) }
+    ensures course { AtMostOneCourse (begun_of request.now netlist).own_registers (lists_of request.now netlist) (heard progress.old) (heard progress.new) }
+    ensures whole { OnOk result (WholeCourse (begun_of request.now netlist).own_registers (lists_of request.now netlist) (heard progress.old) (heard progress.new)) }
 {
     let stimulus = request.stimulus.unwrap();
     let gated = gate_netlist(alloc, netlist, request, progress)?;

@@ -1,6 +1,6 @@
 //! The hints and the plan of a netlist, and the netlist that the plan's machine is written as.
 
-ghost use Rattle.std.specs.Prelude.{◌≡◌, ℕ, List, Some, IfOk, IfErr, IsTrue, [], map, unwrap_or};
+ghost use Rattle.std.specs.Prelude.{◌≡◌, ℕ, List, Some, IfOk, IfErr, IsTrue, OnOk, [], map, unwrap_or};
 ghost use Rattle.std.specs.Option.{option_copied, option_or};
 ghost use Rattle.cg_cell.specs.Name.{is_name};
 ghost use Rattle.cg_extract.specs.Lifted.{bare, lifted};
@@ -8,7 +8,8 @@ ghost use Rattle.cg_extract.specs.Reading.{read_of};
 ghost use Rattle.cg_gate.specs.Gating.{AreHintsTried, IsBegunPlan};
 ghost use Rattle.cg_gate.specs.Left.{IsGatedAs, gated_by};
 ghost use Rattle.cg_gate.specs.Proper.{IsProper};
-ghost use Rattle.cg_gate.specs.Request.{MayGate, begun_of, gating_of, hints_limit, plan_limit, stops_at};
+ghost use Rattle.cg_gate.specs.Request.{MayGate, begun_of, gating_of, hints_limit, lists_of, plan_limit, stops_at};
+ghost use Rattle.cg_hold.specs.Progress.{AtMostOneCourse, OneCourse, WholeCourse};
 ghost use Rattle.cg_insert.specs.Insert.{CanInsert};
 ghost use Rattle.cg_insert.specs.Inserting.{insertion};
 ghost use Rattle.cg_limit.specs.Answers.{OrNoMemory};
@@ -16,6 +17,7 @@ ghost use Rattle.cg_stage_list_laws.specs.Literals.{FitZeroCounts};
 ghost use Rattle.cg_netlist.specs.declared.fault.AddFault.TheVariants.{NoMemory};
 ghost use Rattle.cg_plan_laws.specs.Plan.{plan_of};
 ghost use Rattle.cg_plan_laws.specs.Reported.{IsPlan, PlanMayFail};
+ghost use Rattle.cg_plan.specs.Lists.{list_counts};
 ghost use Rattle.cg_plan.specs.Planning.{AreWritable, told};
 ghost use Rattle.cg_stimulus.specs.Inputs.{IsFor, IsStimulus, Rows};
 ghost use Rattle.std.specs.List.{All, AllByRecursion};
@@ -125,6 +127,8 @@ pub fn gate_netlist(
     ensures fits { IfOk result (λ gated. (stimulus : Rows) → request.now.stimulus ≡ Some stimulus → IsFor gated.netlist stimulus) }
     ensures proper { IsProper request.now }
     ensures fault { IfErr result (PlanMayFail (stops_at request.now netlist)) }
+    ensures course { AtMostOneCourse (begun_of request.now netlist).own_registers (lists_of request.now netlist) (heard progress.old) (heard progress.new) }
+    ensures whole { OnOk result (WholeCourse (begun_of request.now netlist).own_registers (lists_of request.now netlist) (heard progress.old) (heard progress.new)) }
 {
     hold_request(request);
     let planned = plan_netlist(alloc, netlist, request, progress)?;
@@ -180,6 +184,8 @@ fn plan_netlist(
     ensures kept { IfOk result (λ planned. unwrap_or planned.kept (bare netlist) ≡ netlist) }
     ensures fault { IfErr result (PlanMayFail (option_or (hints_limit (gating_of request.now netlist) netlist)
         (plan_limit (gating_of request.now netlist) netlist))) }
+    ensures course { AtMostOneCourse (begun_of request.now netlist).own_registers (lists_of request.now netlist) (heard progress.old) (heard progress.new) }
+    ensures whole { OnOk result (WholeCourse (begun_of request.now netlist).own_registers (lists_of request.now netlist) (heard progress.old) (heard progress.new)) }
 {
     let begun = begin(alloc, netlist, request)?;
     plan_hinted(alloc, begun, request, progress)
@@ -226,6 +232,8 @@ fn plan_hinted(
     ensures plan { IfOk result (λ planned. IsBegunPlan request.now (read_of begun.kept begun.machine) (told planned.plan)) }
     ensures writable { IfOk result (λ planned. AreWritable planned.plan.certificates) }
     ensures fault { IfErr result (PlanMayFail (plan_limit (gating_of request.now (read_of begun.kept begun.machine)) (read_of begun.kept begun.machine))) }
+    ensures course { AtMostOneCourse begun.machine.own_registers (lists_of request.now (read_of begun.kept begun.machine)) (heard progress.old) (heard progress.new) }
+    ensures whole { OnOk result (WholeCourse begun.machine.own_registers (lists_of request.now (read_of begun.kept begun.machine)) (heard progress.old) (heard progress.new)) }
 {
     let Begun {
         machine,
@@ -256,6 +264,8 @@ fn plan_begun(
     ensures plan { IfOk result (λ plan. IsBegunPlan request.now (read_of kept.now machine) (told plan)) }
     ensures writable { IfOk result (λ plan. AreWritable plan.certificates) }
     ensures fault { IfErr result (PlanMayFail (plan_limit (gating_of request.now (read_of kept.now machine)) (read_of kept.now machine))) }
+    ensures course { AtMostOneCourse machine.own_registers (lists_of request.now (read_of kept.now machine)) (heard progress.old) (heard progress.new) }
+    ensures whole { OnOk result (WholeCourse machine.own_registers (lists_of request.now (read_of kept.now machine)) (heard progress.old) (heard progress.new)) }
 {
     match request.stimulus {
         None => plan_machine(alloc, machine, request, None, progress),
@@ -286,6 +296,8 @@ fn plan_machine(
     ensures plan { IfOk result (λ plan. IsPlan request.now.library request.now.settings (option_copied counts.entry) machine (told plan)) }
     ensures writable { IfOk result (λ plan. AreWritable plan.certificates) }
     ensures fault { IfErr result (PlanMayFail (plan_of request.now.library request.now.settings (option_copied counts.entry) machine).limit) }
+    ensures course { OneCourse machine.own_registers (list_counts request.now.library request.now.settings (option_copied counts.entry) machine) (heard progress.old) (heard progress.new) }
+    ensures whole { OnOk result (WholeCourse machine.own_registers (list_counts request.now.library request.now.settings (option_copied counts.entry) machine) (heard progress.old) (heard progress.new)) }
 {
     make_plan(
         alloc,

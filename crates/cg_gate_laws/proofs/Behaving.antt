@@ -7,7 +7,8 @@ use Rattle.std.proofs.lemmas.List.{length-map, length-replicate, length-take-le,
 use Rattle.std.proofs.lemmas.Simd.{map-map}
 use Rattle.cg_insert.specs.Insert.{CanInsert, gate_names, gated, reclocked, test_net}
 use Rattle.cg_insert.proofs.GatedForm.{gated_formed, inputs_once}
-use Rattle.cg_insert.proofs.GatedMoments.{data_is, output_is_used, take_get}
+use Rattle.cg_insert.proofs.GatedMoments.{data_is, take_get}
+use Rattle.cg_netlist.proofs.Used.{output_is_used}
 use Rattle.cg_insert.proofs.Inserted.{own_wave as own_is}
 use Rattle.cg_netlist_telling.proofs.OrderedNames.{named_at}
 use Rattle.cg_machine.specs.Added.{own_nets}

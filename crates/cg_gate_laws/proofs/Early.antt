@@ -4,11 +4,11 @@ use Rattle.std.proofs.Common.{None, Some, nat_eq, refl, sym, ◌∙◌, ap, subs
 use Rattle.std.proofs.lemmas.Bool.{both_ways, eq-eqb, or_left}
 use Rattle.cg_stage_list_laws.specs.Rounds.{same_kind}
 use Rattle.cg_machine.proofs.Bits.{each_bit}
-use Rattle.cg_machine.proofs.Extended.{any_old, front_bit, hold_kept, old_bit, old_inputs, old_long, stable_kept, step_old}
+use Rattle.cg_machine.proofs.Extended.{any_old, controls_same, front_bit, hold_kept, old_bit, old_inputs, old_long, stable_kept, step_old}
 use Rattle.cg_machine.specs.Added.{Added}
 use Rattle.cg_machine.specs.Claims.{Hold as HoldClaim, Literal, Stable as StableClaim, any_at, literal_bit}
 use Rattle.cg_machine.specs.Extends.{Extends, old}
-use Rattle.cg_machine.specs.Machine.{IsInputs, IsState, MachineData, enable_of, load, next, step, values, IsMachine, IsNet}
+use Rattle.cg_machine.specs.Machine.{IsInputs, IsState, MachineData, enable_of, has_controls, load, next, step, values, IsMachine, IsNet}
 use Rattle.cg_machine.specs.Run.{with_enables}
 use Rattle.cg_machine.specs.declared.stage.Stage.{Stage}
 use Rattle.cg_machine.specs.declared.stage.StageKind.{StageKind}
@@ -20,7 +20,7 @@ use Rattle.cg_stage_laws.proofs.HoldSafe.{Holds, hold_both}
 use Rattle.cg_stage_laws.proofs.StableSafe.{Delays, stable_both}
 use Rattle.cg_stage_laws.specs.Effects.{effect, literal_net, limit_by, net_by}
 use Rattle.cg_stage_laws.specs.Joined.{enabled}
-use Rattle.cg_stage_laws.specs.Stages.{ClaimsHold, FitsKind, first_literal}
+use Rattle.cg_stage_laws.specs.Stages.{ClaimsHold, FitsControls, FitsKind, first_literal}
 use Rattle.cg_gate_laws.proofs.Chain.{next_enables}
 use Rattle.cg_gate_laws.proofs.Linked.{extends_by}
 use Rattle.cg_gate_laws.proofs.Path.{Grows, load_same, Step, grows_then, step_grows}
@@ -42,6 +42,7 @@ pub record DelayedBy (n : MachineData) (e : MachineData × Stage) : Type 0 where
   pub shows : (r : ℕ) → is_in e.1.regs r ≡ true → (t x : List Bool) → IsState n t → IsInputs n x → bit (values n t x) net ≡ (load (values n t x) (enable_of e.0 r) && bit t register)
   pub takes : (t x : List Bool) → IsState n t → IsInputs n x → bit (step n t x) register ≡ any_at (values n t x) e.1.enable
   pub claim : (r : ℕ) → is_in e.1.regs r ≡ true → StableClaim (with_enables n e.0.enables) e.1.enable r
+  pub plain : (r : ℕ) → is_in e.1.regs r ≡ true → has_controls n r ≡ false
 
 module _ (n : MachineData) (good : IsMachine n) (e : MachineData × Stage) (st : Step e.0 e.1) (grows : Grows (effect e.0 e.1) n) where
   abbrev m : MachineData
@@ -101,8 +102,8 @@ module _ (n : MachineData) (good : IsMachine n) (e : MachineData × Stage) (st :
           (sym same ∙ (sym (h.shows t0 x (old_long c.machine n_c e_c t long) ina) ∙ (sym (front_bit c.machine n_c e_c t x long ina c.net h.net.below) ∙ off)));
     }
 
-    delayed_by : Delays e.0 e.1 c → ((r : ℕ) → is_in e.1.regs r ≡ true → StableClaim e.0 e.1.enable r) → DelayedBy n e
-    delayed_by d claims = record {
+    delayed_by : Delays e.0 e.1 c → ((r : ℕ) → is_in e.1.regs r ≡ true → has_controls e.0 r ≡ false) → ((r : ℕ) → is_in e.1.regs r ≡ true → StableClaim e.0 e.1.enable r) → DelayedBy n e
+    delayed_by d plain claims = record {
       net = c.net;
       register = d.register;
       added = omega (arith, d.added, (grows_c c is).own);
@@ -132,6 +133,7 @@ module _ (n : MachineData) (good : IsMachine n) (e : MachineData × Stage) (st :
           ∙ (ap (λ u. bit u d.register) (step_old c.machine n_c d.good e_c t x long ina)
           ∙ (d.takes t0 x (old_long c.machine n_c e_c t long) ina
           ∙ sym (any_old c.machine n_c d.good e_c s.enable (λ y among. let w = (st.fits.nets y among).below in omega (arith, w, d.extends.names)) t x long ina))))));
+      plain = λ r among. controls_same m n_m st.good e_m r (below_m r among) ∙ plain r among;
       claim = λ r among. stable_kept m n_m st.good e_m s.enable (λ y h. (st.fits.nets y h).below) r (below_m r among) (claims r among);
     }
 
@@ -145,7 +147,8 @@ module _ (n : MachineData) (good : IsMachine n) (e : MachineData × Stage) (st :
   delayed kind =
       let fit : FitsKind Stable e.1 = subst (λ k. FitsKind k s) kind st.fits.kind in
       let claims : (r : ℕ) → is_in e.1.regs r ≡ true → StableClaim e.0 e.1.enable r = subst (λ k. ClaimsHold k m s) kind st.claims in
-      delayed_by (net_by Stable m s) (ap (λ k. enabled (net_by k m s) s.regs) kind) (stable_both m s st.good st.fits fit.0 (ap (λ k. limit_by k m s) (sym kind) ∙ st.free) claims).1 claims
+      let plain : (r : ℕ) → is_in e.1.regs r ≡ true → has_controls e.0 r ≡ false = subst (λ k. FitsControls k m s) kind st.fits.controls in
+      delayed_by (net_by Stable m s) (ap (λ k. enabled (net_by k m s) s.regs) kind) (stable_both m s st.good st.fits fit.0 plain (ap (λ k. limit_by k m s) (sym kind) ∙ st.free) claims).1 plain claims
 
   pub early : IsEarly e.1 → HeldBy n e ⊎ DelayedBy n e
   early is = go e.1.kind refl is

@@ -7,6 +7,7 @@ use Rattle.std.proofs.lemmas.Slice.Eq.{bytes_eq-Decides}
 use Rattle.std.specs.List.{filter_map, flat_map}
 use Rattle.cg_stage_list_laws.proofs.FitLists.{BeginsGroup, begins_group}
 use Rattle.cg_stage_list_laws.proofs.Mapped.{kept, none_option, plain_nets, when_true}
+use Rattle.cg_stage_list_laws.specs.Controlled.{feeds_controls, has_preset_at}
 use Rattle.cg_stage_list_laws.specs.Groups.{Group, group_of}
 use Rattle.cg_stage_list_laws.specs.HoldList.{unless_empty}
 use Rattle.cg_stage_list_laws.specs.Rounds.{is_empty, kept_key, same_kind}
@@ -55,13 +56,14 @@ module _ (m : MachineData) (good : IsMachine m) (earlier : List Earlier) where
       free r g u is q among =
           let begins : BeginsGroup bytes_eq lists_are (kept_key Unseen had_unseen earlier (unseen_key m)) (own_registers_of m) r g = begins_group bytes_eq lists_are (kept_key Unseen had_unseen earlier (unseen_key m)) (own_registers_of m) r g is in
           let key : unseen_key m r ≡ Some g.key = kept Unseen had_unseen earlier (unseen_key m) r g.key begins.is_key in
-          let w = when_true (not (has_enable m r) && not (is_empty (guards_of m r))) (guards_of m r) g.key key in
+          let w = when_true (not (has_enable m r) && not (feeds_controls m r) && not (is_empty (guards_of m r))) (guards_of m r) g.key key in
           let f = in_filter (is_guard m r (fan_out m r)) (own_registers_of m) q (ap (λ l. is_in l q) w.1 ∙ among) in
-          let a = and_parts (not (nat_eq q r) && not (has_enable m q) && is_some (taken_at m q)) (enables_some m (fan_out m r) q) f.1 in
-          let b = and_parts (not (nat_eq q r) && not (has_enable m q)) (is_some (taken_at m q)) a.0 in
-          let c = and_parts (not (nat_eq q r)) (not (has_enable m q)) b.0 in
+          let a = and_parts (not (nat_eq q r) && not (has_enable m q) && not (has_preset_at m q) && is_some (taken_at m q)) (enables_some m (fan_out m r) q) f.1 in
+          let b = and_parts (not (nat_eq q r) && not (has_enable m q) && not (has_preset_at m q)) (is_some (taken_at m q)) a.0 in
+          let d = and_parts (not (nat_eq q r) && not (has_enable m q)) (not (has_preset_at m q)) b.0 in
+          let c = and_parts (not (nat_eq q r)) (not (has_enable m q)) d.0 in
           record {
-            below = let d = in_range m.own_registers 0 q f.0 in omega (arith, d.1);
+            below = let w = in_range m.own_registers 0 q f.0 in omega (arith, w.1);
             none = none_option (enable_of m q) (not-true (has_enable m q) c.1);
           }
 

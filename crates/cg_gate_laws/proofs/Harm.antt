@@ -4,10 +4,11 @@ use Rattle.std.proofs.Common.{nat_eq, refl, sym, ◌∙◌, ap, subst, inl, inr,
 use Rattle.std.proofs.lemmas.Bool.{both_ways, cases_Bool, eqb-true, false_from_ne_true, or_cases}
 use Rattle.std.proofs.lemmas.Option.{slice_get_past}
 use Rattle.cg_machine.proofs.Bits.{each_get, length-each, same_bit}
+use Rattle.cg_machine.proofs.Forcing.{delay_uncontrolled, lasting_is, lasting_off, rest_free}
 use Rattle.cg_machine.proofs.Gated.{not_loaded}
 use Rattle.cg_machine.proofs.Lists.{below_or}
 use Rattle.cg_machine.specs.Claims.{Follows}
-use Rattle.cg_machine.specs.Machine.{IsInputs, IsState, MachineData, enable_of, load, next, step, values, IsMachine}
+use Rattle.cg_machine.specs.Machine.{IsInputs, IsState, MachineData, at_rest, enable_of, has_controls, load, next, step, values, IsMachine}
 use Rattle.cg_machine.specs.Run.{with_enables, freed}
 use Rattle.cg_machine.specs.declared.stage.Stage.{Stage}
 use Rattle.cg_net.specs.NetSets.{is_in}
@@ -18,6 +19,7 @@ use Rattle.cg_stage_laws.specs.Laws.{After}
 use Rattle.cg_gate_laws.proofs.Chain.{next_enables, next_loads, none_or_some, some_none}
 use Rattle.cg_gate_laws.proofs.Early.{DelayedBy, HeldBy, early}
 use Rattle.cg_gate_laws.proofs.Entries.{Chain, Entry, IsHarmless, grouped}
+use Rattle.cg_gate_laws.proofs.Lasts.{Lasts, lasts_rest, lasts_step}
 use Rattle.cg_gate_laws.proofs.Path.{Grows, Every, IsPath, Step, grows_then, step_after, step_grows}
 use Rattle.cg_gate_laws.proofs.Phases.{IsEarly, beyond_none}
 use Rattle.cg_gate_laws.proofs.TestSafe.{no_enable}
@@ -36,7 +38,7 @@ module _ (n : MachineData) (good : IsMachine n) (all : List Entry) (links : Chai
     pub x0 : List Bool
     pub long : IsState n s0
     pub ins : IsInputs n x0
-    pub is : s ≡ step n s0 x0
+    pub lasts : Lasts n s0 x0 s
     pub harmless : (r : ℕ) → grouped all r ≡ false → next (freed n) (values n s0 x0) s0 r ≡ next n (values n s0 x0) s0 r
 
   abbrev pub Reached : List Bool → Type 0
@@ -99,23 +101,28 @@ module _ (n : MachineData) (good : IsMachine n) (all : List Entry) (links : Chai
     ]
 
     -- the state of the test run follows
-    follows : Rising e.0 → (s t : List Bool) → Near s t → (p : Stepped s) → (r : ℕ) → grouped all r ≡ false → Follows (with_enables n e.0.enables) (r ∷ []) p.s0 p.x0 t
-    follows up s t near p r alone = record {
+    follows : Rising e.0 → (s t : List Bool) → Near s t → (p : Stepped s) → (r : ℕ) → grouped all r ≡ false → has_controls n r ≡ false → Follows (with_enables n e.0.enables) (r ∷ []) p.s0 p.x0 t
+    follows up s t near p r alone plain = record {
       long = near.long_t;
-      takes = λ q among. elim (or_cases (nat_eq q r) false among) [
+      takes = λ q among told. elim (or_cases (nat_eq q r) false among) [
         | inr none ↦ absurd (both_ways false refl none)
         | inl same ↦ subst (λ z. slice_get t z ≡ slice_get (step (with_enables n e.0.enables) p.s0 p.x0) z) (sym (eqb-true q r same)) takes
       ];
-      keeps = λ q off. elim (none_or_some (enable_of e.0 q)) [
-        | inl none ↦ absurd (both_ways true (sym (ap (load (values n p.s0 p.x0)) none) ∙ off) refl)
-        | inr some ↦
-            let u : Up e.0 q = up q some.0 some.1 in
-            near.agree q u.alone
-            ∙ (ap (λ w. slice_get w q) p.is
-            ∙ (follows_step n [] p.s0 p.x0 p.long).keeps q (u.loads p.s0 p.x0 p.long p.ins off))
-      ];
+      keeps = λ q off.
+          let parts = lasting_off (with_enables n e.0.enables) (values n p.s0 p.x0) q off in
+          kept q parts.0 parts.1;
     }
       where
+        kept : (q : ℕ) → has_controls n q ≡ false → load (values n p.s0 p.x0) (enable_of e.0 q) ≡ false → slice_get t q ≡ slice_get p.s0 q
+        kept q free off = elim (none_or_some (enable_of e.0 q)) [
+          | inl none ↦ absurd (both_ways true (sym (ap (load (values n p.s0 p.x0)) none) ∙ off) refl)
+          | inr some ↦
+              let u : Up e.0 q = up q some.0 some.1 in
+              near.agree q u.alone
+              ∙ (p.lasts.plain q free
+              ∙ (follows_step n [] p.s0 p.x0 p.long).keeps q (lasting_is n (values n p.s0 p.x0) q free (u.loads p.s0 p.x0 p.long p.ins off)))
+        ]
+
         nets : List Bool
         nets = values n p.s0 p.x0
 
@@ -132,7 +139,7 @@ module _ (n : MachineData) (good : IsMachine n) (all : List Entry) (links : Chai
         ]
 
         takes : slice_get t r ≡ slice_get (step (with_enables n e.0.enables) p.s0 p.x0) r
-        takes = near.agree r alone ∙ (ap (λ w. slice_get w r) p.is ∙ elim (below_or (length n.circuit.registers) r) [
+        takes = near.agree r alone ∙ (p.lasts.plain r plain ∙ elim (below_or (length n.circuit.registers) r) [
           | inl below ↦ each_get n (next n (values n p.s0 p.x0) p.s0) r below ∙ (ap Some next_same ∙ sym (each_get (with_enables n e.0.enables) (next (with_enables n e.0.enables) (values n p.s0 p.x0) p.s0) r below))
           | inr past ↦
               slice_get_past (step n p.s0 p.x0) r (omega (arith, past, length-each n (next n (values n p.s0 p.x0) p.s0)))
@@ -160,7 +167,8 @@ module _ (n : MachineData) (good : IsMachine n) (all : List Entry) (links : Chai
                 next_loads n (freed n).enables e.0.enables (values n t x) t r (ap (load (values n t x)) (no_enable n r)) on
                 ∙ elim (near.reached) [
                   | inl ones ↦ absurd (both_ways (bit s d.register) low_s (ones d.register d.added d.below))
-                  | inr p ↦ d.claim r among p.s0 p.x0 t x p.long p.ins ins (follows e is.1 up_e s t near p r alone) (sym (d.takes p.s0 p.x0 p.long p.ins) ∙ (ap (λ w. bit w d.register) (sym p.is) ∙ low_s))
+                  | inr p ↦ d.claim r among p.s0 p.x0 t x p.long p.ins ins (follows e is.1 up_e s t near p r alone (d.plain r among))
+                  (sym (d.takes p.s0 p.x0 p.long p.ins) ∙ (sym (same_bit s (step n p.s0 p.x0) d.register (p.lasts.plain d.register (delay_uncontrolled n good d.register d.added d.below))) ∙ low_s))
                 ]
           ]
         ]
@@ -192,6 +200,10 @@ module _ (n : MachineData) (good : IsMachine n) (all : List Entry) (links : Chai
 
     pub is_harmless : IsHarmless n all Reached
     is_harmless = record {
-      steps = λ s x long ins reached. inr (record { s0 = s; x0 = x; long = long; ins = ins; is = refl; harmless = harmless s s x long long ins reached (λ r out. refl) });
+      steps = λ s x long ins reached. inr (record { s0 = s; x0 = x; long = long; ins = ins; lasts = lasts_step n s x; harmless = harmless s s x long long ins reached (λ r out. refl) });
+      rests = λ s x long ins reached. elim reached [
+        | inl ones ↦ inl (λ k past below. same_bit (at_rest n s x) s k (rest_free n s x long k (delay_uncontrolled n good k past below)) ∙ ones k past below)
+        | inr p ↦ inr (record { s0 = p.s0; x0 = p.x0; long = p.long; ins = p.ins; lasts = lasts_rest n p.s0 p.x0 s x long p.lasts; harmless = p.harmless })
+      ];
       harmless = harmless;
     }

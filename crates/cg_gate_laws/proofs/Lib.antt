@@ -1,4 +1,5 @@
 pub mod Entries
+pub mod Lasts
 pub mod Chain
 pub mod TestSafe
 pub mod Path

@@ -8,8 +8,9 @@ use Rattle.std.specs.Option.{option_map_or}
 use Rattle.cg_cell.specs.Gates.{any_of}
 use Rattle.cg_cell.specs.Term.{Term, Bit, Input, Inverse, Both, Either, Differ, lone_input, term_value}
 use Rattle.cg_claim.specs.Reach.{register_term}
+use Rattle.cg_stage_list_laws.proofs.TakenNets.{takes_value}
 use Rattle.cg_stage_list_laws.specs.UnseenList.{taken_at, taken_net}
-use Rattle.cg_machine.proofs.Extended.{any_old, front_bit, old_inputs, old_long, output_below, taken_below, unseen_kept}
+use Rattle.cg_machine.proofs.Extended.{any_old, front_bit, net_kept, old_inputs, old_long, output_below, taken_below, unseen_kept}
 use Rattle.cg_machine.proofs.Lists.{below_or}
 use Rattle.cg_machine.proofs.Settled.{wide}
 use Rattle.cg_machine.specs.Added.{Added}
@@ -33,7 +34,8 @@ use Rattle.cg_stage_laws.proofs.Joins.{Joins}
 use Rattle.cg_stage_laws.specs.Effects.{effect, limit_by, net_by}
 use Rattle.cg_stage_laws.specs.Joined.{enabled, join_all}
 use Rattle.cg_stage_laws.specs.Laws.{After}
-use Rattle.cg_stage_laws.specs.Stages.{ClaimsHold, FitsKind, IsTarget, enable_nets}
+use Rattle.cg_stage_laws.proofs.Unforced.{controls_kept}
+use Rattle.cg_stage_laws.specs.Stages.{ClaimsHold, FitsControls, FitsKind, IsTarget, enable_nets}
 use Rattle.cg_gate_laws.proofs.Entries.{Chain, Entry, Facts, grouped}
 use Rattle.cg_gate_laws.proofs.Path.{Grows, Every, IsPath, Step, grows_then, step_after, step_grows}
 use Rattle.cg_gate_laws.proofs.Phases.{IsDone, beyond_none}
@@ -43,50 +45,15 @@ use Rattle.cg_machine.proofs.There.{same_bits}
 pub extends_by : (m n : MachineData) → Grows m n → Extends m (with_enables n m.enables)
 extends_by m n g = record { own = g.own; clock = g.clock; inputs = g.inputs; outputs = g.outputs; names = g.names; count = g.count; registers = g.registers; enables = λ r below. refl; fronts = g.fronts }
 
-front_get : (xs ys : List Bool) (k : ℕ) → k < length xs → slice_get (xs ++ ys) k ≡ slice_get xs k
-front_get [] ys k below = absurd (omega arith)
-front_get (x ∷ xs) ys zero below = refl
-front_get (x ∷ xs) ys (suc k) below = front_get xs ys k (omega arith)
-
--- the next bit of a register whose function is one of its inputs
-lone_is : (t : Term) (k : ℕ) → lone_input t ≡ Some k → t ≡ Input k
-lone_is (Bit b) k is = absurd (none-some k is)
-lone_is (Input j) k is = ap Input (same_Some j k is)
-lone_is (Inverse t) k is = absurd (none-some k is)
-lone_is (Both s t) k is = absurd (none-some k is)
-lone_is (Either s t) k is = absurd (none-some k is)
-lone_is (Differ s t) k is = absurd (none-some k is)
-
-takes_input : (kind : RegisterKind) (bits : List Bool) (own : Bool) (k : ℕ) → k < length bits → register_term kind ≡ Input k → next_value kind bits own ≡ bit bits k
-takes_input Plain bits own k below is = ap (bit bits) (same_input 0 k is)
-  where
-    same_input : (a b : ℕ) → Input a ≡ Input b → a ≡ b
-    same_input a b e = cc
-takes_input (Flop cell) bits own k below is = go cell.function is
-  where
-    go : (o : Option Term) → option_map_or (λ (t : Term). t) o (Bit false) ≡ Input k → option_map_or (term_value (bits ++ own ∷ [])) o false ≡ bit bits k
-    go None h = absurd (cc)
-    go (Some t) h = ap (term_value (bits ++ own ∷ [])) h ∙ same_bits (bits ++ own ∷ []) bits k k (front_get bits (own ∷ []) k below)
-
 module _ (n : MachineData) (good : IsMachine n) where
   pub takes_net : (s x : List Bool) → IsState n s → IsInputs n x → (q y : ℕ) → enable_of n q ≡ None → taken_at n q ≡ Some y → next n (values n s x) s q ≡ bit (values n s x) y
   takes_net s x long ins q y none taken = cells (slice_get n.circuit.registers q) refl taken
     where
       cells : (c : Option (RegisterCell ℕ ℕ)) → slice_get n.circuit.registers q ≡ c → option_and_then taken_net c ≡ Some y → next_of c (enable_of n q) (values n s x) (bit s q) ≡ bit (values n s x) y
       cells None at h = absurd (none-some y h)
-      cells (Some cell) at h = inner (lone_input (register_term cell.kind)) refl h
-        where
-          inner : (o : Option ℕ) → lone_input (register_term cell.kind) ≡ o → option_and_then (slice_get cell.inputs) o ≡ Some y → next_of (Some cell) (enable_of n q) (values n s x) (bit s q) ≡ bit (values n s x) y
-          inner None lone g = absurd (none-some y g)
-          inner (Some k) lone g =
-              let nets : List Bool = values n s x in
-              let bits : List Bool = values_at nets cell.inputs in
-              let all : All (λ z. z < length nets) cell.inputs = All-from_members (λ z. z < length nets) cell.inputs (λ z among. let b = taken_below n good q cell z at among in omega (arith, b, wide n good s x long ins)) in
-              let at_k : slice_get bits k ≡ slice_get nets y = value_at nets cell.inputs k y all g in
-              let below : k < length bits = omega (arith, length-values_at nets cell.inputs all, slice_get_within cell.inputs k y g) in
-              ap (λ o. next_of (Some cell) o nets (bit s q)) none
-              ∙ (takes_input cell.kind bits (bit s q) k below (lone_is (register_term cell.kind) k lone)
-              ∙ same_bits bits nets k y at_k)
+      cells (Some cell) at h =
+          ap (λ o. next_of (Some cell) o (values n s x) (bit s q)) none
+          ∙ takes_value n good s x long ins q y cell at taken
 
 -- what is kept up to the last machine
 pub record Rises (all : List Entry) (k n : MachineData) : Type 0 where
@@ -197,6 +164,41 @@ module _ (b n : MachineData) (good_b : IsMachine b) (good : IsMachine n) (all : 
   below_m : (y : ℕ) → is_in (map (λ (l : Literal). l.0) e.1.enable) y ≡ true → y < length e.0.circuit.names
   below_m y among = (step.fits.nets y among).below
 
+  -- the last machine with the enables of this one is a machine
+  good_m : IsMachine (with_enables n e.0.enables)
+  good_m = record {
+    well_formed = good.well_formed;
+    no_gaters = good.no_gaters;
+    inputs_once = good.inputs_once;
+    outputs_once = good.outputs_once;
+    small = good.small;
+    few_registers = good.few_registers;
+    walk = good.walk;
+    enables = step.good.enables ∙ sym lowers.count;
+    enabled = λ r y some. net_kept m n_m e_m y (step.good.enabled r y some);
+    own_cells = good.own_cells;
+    gates = good.gates;
+    gates_fit = good.gates_fit;
+    own_registers = good.own_registers;
+    delays = λ r cell past at.
+        let d = good.delays r cell past at in
+        record { net = d.net; output = d.output; is = d.is; clock = d.clock; free = beyond_none m step.good r (omega (arith, past, lowers.grows.own)) };
+    added_nets = good.added_nets;
+    prefix = good.prefix;
+    fresh = good.fresh;
+  }
+
+  -- what clear and preset allow the stage, they allow it in the last machine
+  allowed : FitsControls Unseen n e.1
+  allowed =
+      let c : FitsControls Unseen (with_enables n_m n.enables) e.1 = subst (λ k. FitsControls k (with_enables n_m n.enables) s) done.kind (controls_kept m n_m step.good good_m e_m n.enables s step.fits) in (
+        c.0,
+        λ q among. elim (c.1 q among) [
+          | inl none ↦ inl none
+          | inr cleared ↦ inr (λ t x long ins idle. let z = cleared t x long ins idle in record { none = z.none; takes = z.takes })
+        ],
+      )
+
   claims_n : (t : Target) → IsTarget n t → UnseenClaim (with_enables n e.0.enables) e.1.enable e.1.guards e.1.regs t
   claims_n (Shown y) is =
       let old_is : is_in m.circuit.outputs y ≡ true = ap (λ l. is_in l y) (sym lowers.grows.outputs) ∙ is in
@@ -224,6 +226,7 @@ module _ (b n : MachineData) (good_b : IsMachine b) (good : IsMachine n) (all : 
     same = lowers.same;
     gated = λ r among. ((join_all e.0 (enable_nets e.1)).net, rises.own r a.net (has r among), shows);
     guards = λ q among. ((let w = step.fits.guards q among in omega (arith, w, lowers.count)), free q (done.guards q among));
+    controls = allowed;
     decided = decided;
   }
 

@@ -18,7 +18,7 @@ use Rattle.cg_net.specs.Names.{NetName, net_name}
 use Rattle.cg_netlist.specs.Wiring.{Wiring, map_cell, map_outputs, map_register, named}
 use Rattle.cg_netlist.proofs.Given.{clock_given, driver_within, given_driver, register_given}
 use Rattle.cg_net.proofs.Members.{All-member, is_in_right, member_at}
-use Rattle.cg_netlist.proofs.Used.{data_is_used, in_flat, input_is_used}
+use Rattle.cg_netlist.proofs.Used.{control_is_used, data_is_used, in_flat, input_is_used}
 use Rattle.cg_netlist.proofs.Values.{at_map, map_same}
 use Rattle.cg_extract.specs.Lifted.{bare, number_of, on_clock, ungated}
 use Rattle.cg_gate_laws.specs.Gated.{CanGate, Gating, gated_by, planned}
@@ -47,7 +47,7 @@ outputs_same f g (o ∷ outputs) same =
 
 -- a register by names, without its clock
 abbrev without_clock : RegisterCell NetName NetName → RegisterCell NetName (Option NetName)
-without_clock r = record { inputs = r.inputs; outputs = r.outputs; pins = r.pins; clock = None; kind = r.kind; init = r.init }
+without_clock r = record { inputs = r.inputs; controls = r.controls; outputs = r.outputs; pins = r.pins; clock = None; kind = r.kind; init = r.init }
 
 -- nets of a part that have the same names in two netlists
 abbrev SameNets : (ℕ → NetName) → (ℕ → NetName) → List ℕ → Type 0
@@ -55,16 +55,18 @@ SameNets f g nets = (x : ℕ) → is_in nets x ≡ true → f x ≡ g x
 
 record SameNamed (f g : ℕ → NetName) (r : RegisterCell ℕ ℕ) : Type 0 where
   taken : SameNets f g r.inputs
+  forced : SameNets f g r.controls
   shown : SameNets f g (shown_nets r)
 
 abbrev as_named : (f : ℕ → NetName) → RegisterCell ℕ ℕ → RegisterCell NetName (Option NetName)
-as_named f r = record { inputs = map f r.inputs; outputs = map_outputs f r.outputs; pins = r.pins; clock = None; kind = r.kind; init = r.init }
+as_named f r = record { inputs = map f r.inputs; controls = map f r.controls; outputs = map_outputs f r.outputs; pins = r.pins; clock = None; kind = r.kind; init = r.init }
 
 one_named : (f g : ℕ → NetName) (r : RegisterCell ℕ ℕ) → SameNamed f g r → as_named f r ≡ as_named g r
 one_named f g r same =
     let ins : map f r.inputs ≡ map g r.inputs = map_same f g r.inputs same.taken in
+    let controls : map f r.controls ≡ map g r.controls = map_same f g r.controls same.forced in
     let outs : map_outputs f r.outputs ≡ map_outputs g r.outputs = outputs_same f g r.outputs same.shown in
-    λ i. record { inputs = ins i; outputs = outs i; pins = r.pins; clock = None; kind = r.kind; init = r.init }
+    λ i. record { inputs = ins i; controls = controls i; outputs = outs i; pins = r.pins; clock = None; kind = r.kind; init = r.init }
 
 front_named : (f g : ℕ → NetName) (t : Option (List ℕ)) (m : MachineData) (n : ℕ) (rs : List (RegisterCell ℕ ℕ)) (es : List (Option ℕ)) → length es ≡ length rs → AllByRecursion (SameNamed f g) (take n rs)
     → map (as_named f) (take n (zip_with (reclocked t m) rs es)) ≡ map (as_named g) (take n rs)
@@ -158,6 +160,7 @@ module _ (by : Gating) (c : Circuit) (can : CanGate by c) where
   register_same : (k : ℕ) (r : RegisterCell ℕ ℕ) → slice_get o.registers k ≡ Some r → SameNamed new_name own_name r
   register_same k r at = record {
     taken = λ x among. kept_name by c can x (used x (data_is_used o k x r at among));
+    forced = λ x among. kept_name by c can x (used x (control_is_used o k x r at among));
     shown = λ x among. kept_name by c can x (driver_within o own_formed.driven x (given_driver o x (register_given o x (in_flat shown_nets o.registers k r x at among))));
   }
 

@@ -30,7 +30,7 @@ use Rattle.cg_stage_laws.proofs.StageSafe.{stage_safe}
 use Rattle.cg_stage_laws.specs.Effects.{effect, limit_by, net_by}
 use Rattle.cg_stage_laws.specs.Joined.{enabled}
 use Rattle.cg_stage_laws.specs.Laws.{After}
-use Rattle.cg_stage_laws.specs.Stages.{ClaimsHold, Fits, FitsKind}
+use Rattle.cg_stage_laws.specs.Stages.{ClaimsHold, Fits, FitsControls, FitsKind}
 
 -- n is m with parts added behind its own, and other enables
 pub record Grows (m n : MachineData) : Type 0 where
@@ -88,12 +88,12 @@ grows_enabled : (m : MachineData) (c : Added) (regs : List ℕ) → Extends m c.
 grows_enabled m c regs e = record { own = e.own; clock = e.clock; inputs = e.inputs; outputs = e.outputs; names = e.names; count = e.count; registers = e.registers; fronts = e.fronts }
 
 pub step_grows : (m : MachineData) (s : Stage) → Step m s → Grows m (effect m s)
-step_grows m s step = go s.kind step.fits.kind step.free step.claims
+step_grows m s step = go s.kind step.fits.kind step.fits.controls step.free step.claims
   where
-    go : (k : StageKind) → FitsKind k s → limit_by k m s ≡ None → ClaimsHold k m s → Grows m (enabled (net_by k m s) s.regs)
-    go Hold fit free holds = grows_enabled m (net_by Hold m s) s.regs (hold_both m s step.good step.fits fit.1 free holds).1.extends
-    go Stable fit free holds = grows_enabled m (net_by Stable m s) s.regs (stable_both m s step.good step.fits fit.0 free holds).1.extends
-    go Unseen fit free holds = grows_enabled m (net_by Unseen m s) s.regs (joined_there m s step.good step.fits free).extends
+    go : (k : StageKind) → FitsKind k s → FitsControls k m s → limit_by k m s ≡ None → ClaimsHold k m s → Grows m (enabled (net_by k m s) s.regs)
+    go Hold fit controls free holds = grows_enabled m (net_by Hold m s) s.regs (hold_both m s step.good step.fits fit.1 free holds).1.extends
+    go Stable fit controls free holds = grows_enabled m (net_by Stable m s) s.regs (stable_both m s step.good step.fits fit.0 controls free holds).1.extends
+    go Unseen fit controls free holds = grows_enabled m (net_by Unseen m s) s.regs (joined_there m s step.good step.fits free).extends
 
 -- the last one first, each with the machine before it
 abbrev pub IsPath : MachineData → List (MachineData × Stage) → MachineData → Type 0

@@ -5,16 +5,18 @@ use Rattle.std.proofs.lemmas.Bool.{both_ways, cases_Bool, or_parts}
 use Rattle.std.proofs.lemmas.Option.{slice_get_past}
 use Rattle.std.specs.Option.{option_flatten}
 use Rattle.cg_machine.proofs.Bits.{each_get, length-each, same_get}
+use Rattle.cg_machine.proofs.Forcing.{rest_but, rest_long}
 use Rattle.cg_machine.proofs.Lists.{below_or}
 use Rattle.cg_machine.specs.Claims.{Next, Shown, Target, any_at, target_bit}
-use Rattle.cg_machine.specs.Machine.{IsInputs, IsState, MachineData, enable_of, load, next, outputs_at, step, values}
+use Rattle.cg_machine.specs.Machine.{IsInputs, IsState, MachineData, at_rest, enable_of, load, next, outputs_at, step, values}
 use Rattle.cg_machine.specs.Run.{shown_from, state_now, ones, shown, freed, test_shown_from, test_state_now, test_step}
 use Rattle.cg_netlist.proofs.Values.{same_values}
 use Rattle.cg_net.specs.NetSets.{is_in}
 use Rattle.cg_netlist.specs.History.{AreTicks, Tick}
 use Rattle.cg_stage_laws.specs.Stages.{IsTarget}
-use Rattle.cg_gate_laws.proofs.Chain.{chain, next_enables, next_loads, none_or_some, some_none}
+use Rattle.cg_gate_laws.proofs.Chain.{chain, controls_told, next_enables, next_loads, none_or_some, some_none}
 use Rattle.cg_gate_laws.proofs.Entries.{Chain, Entry, Facts, IsHarmless, before, grouped, may_differ}
+use Rattle.cg_gate_laws.proofs.Lasts.{Lasts, lasts_rest, lasts_step}
 use Rattle.cg_gate_laws.specs.TestRun.{TestTick, test_shown, ticks_of}
 
 abbrev none_of : Option ℕ → Option ℕ
@@ -37,7 +39,7 @@ module _ (n : MachineData) (all : List Entry) (Reached : List Bool → Type 0)
     pub x0 : List Bool
     pub long : IsState n s0
     pub ins : IsInputs n x0
-    pub is : s ≡ step n s0 x0
+    pub lasts : Lasts n s0 x0 s
     pub equal : (r : ℕ) → may_differ all (values n s0 x0) r ≡ false → slice_get t r ≡ slice_get s r
 
   pub record R (s t : List Bool) : Type 0 where
@@ -145,7 +147,7 @@ module _ (n : MachineData) (all : List Entry) (Reached : List Bool → Type 0)
     kept : (t : List Bool) → R s t → Kept t
     kept t h = elim (h.near) [
       | inl eq ↦ subst Kept (sym eq) kept_self
-      | inr d ↦ chain n all d.s0 d.x0 s x t d.long d.ins ins d.is h.long_t Kept pass n.enables all links s long_s (λ r y some. refl) (λ r none. refl) d.equal kept_self
+      | inr d ↦ chain n all d.s0 d.x0 s x t d.long d.ins ins d.lasts h.long_t Kept pass n.enables all links s long_s (λ r y some. refl) (λ r none. refl) d.equal kept_self
     ]
 
     -- the bits after a step, in groups that are not idle and outside groups
@@ -175,7 +177,7 @@ module _ (n : MachineData) (all : List Entry) (Reached : List Bool → Type 0)
         x0 = x;
         long = long_s;
         ins = ins;
-        is = refl;
+        lasts = lasts_step n s x;
         equal = λ r none. elim (below_or count r) [
           | inl below ↦ at test r below ∙ (ap Some (stepped t h test r below none) ∙ sym (each_get n (next n (values n s x) s) r below))
           | inr past ↦ slice_get_past (test_step n test t x) r (omega (arith, long test)) ∙ sym (slice_get_past (step n s x) r (omega (arith, length-each n (next n (values n s x) s))))
@@ -191,6 +193,25 @@ module _ (n : MachineData) (all : List Entry) (Reached : List Bool → Type 0)
         at true r below = each_get n (next (freed n) (values n t x) t) r below
         at false r below = each_get n (next n (values n t x) t) r below
 
+  rests : (s t x : List Bool) → IsInputs n x → R s t → R (at_rest n s x) (at_rest n t x)
+  rests s t x ins h = record {
+    long_s = rest_long n s x h.long_s;
+    long_t = rest_long n t x h.long_t;
+    reached = harm.rests s x h.long_s ins h.reached;
+    near = elim (h.near) [
+      | inl eq ↦ inl (ap (λ u. at_rest n u x) eq)
+      | inr d ↦ inr (record {
+        s0 = d.s0;
+        x0 = d.x0;
+        long = d.long;
+        ins = d.ins;
+        lasts = lasts_rest n d.s0 d.x0 s x h.long_s d.lasts;
+        equal = (rest_but n (may_differ all (values n d.s0 d.x0)) (controls_told n all (values n d.s0 d.x0) n.enables all links) s t x h.long_s ins
+            (record { long = h.long_t ∙ sym h.long_s; equal = d.equal })).equal;
+      })
+    ];
+  }
+
   abbrev pub HadTest : Option TestTick → Type 0
   HadTest None = Unit {0}
   HadTest (Some k) = IsInputs n k.0.inputs
@@ -199,18 +220,21 @@ module _ (n : MachineData) (all : List Entry) (Reached : List Bool → Type 0)
   tick_before None = None
   tick_before (Some k) = Some k.0
 
-  now_related : (p : Option TestTick) (s t : List Bool) (k : TestTick) → HadTest p → R s t → R (state_now n (tick_before p) s k.0) (test_state_now n p t k.0)
-  now_related None s t k had h = h
-  now_related (Some p) s t k had h = go (not p.0.clock && k.0.clock)
+  now_related : (p : Option TestTick) (s t : List Bool) (k : TestTick) → HadTest p → IsInputs n k.0.inputs → R s t → R (state_now n (tick_before p) s k.0) (test_state_now n p t k.0)
+  now_related None s t k had ins h = rests s t k.0.inputs ins h
+  now_related (Some p) s t k had ins h = go (not p.0.clock && k.0.clock)
     where
-      go : (b : Bool) → R (if b then step n s p.0.inputs else s) (if b then test_step n p.1 t p.0.inputs else t)
-      go true = steps s p.0.inputs h.long_s had t h p.1
-      go false = h
+      held : (b : Bool) → R (if b then step n s p.0.inputs else s) (if b then test_step n p.1 t p.0.inputs else t)
+      held true = steps s p.0.inputs h.long_s had t h p.1
+      held false = h
+
+      go : (b : Bool) → R (at_rest n (if b then step n s p.0.inputs else s) k.0.inputs) (at_rest n (if b then test_step n p.1 t p.0.inputs else t) k.0.inputs)
+      go b = rests (if b then step n s p.0.inputs else s) (if b then test_step n p.1 t p.0.inputs else t) k.0.inputs ins (held b)
 
   pub shown_same : (p : Option TestTick) (s t : List Bool) (wave : List TestTick) → HadTest p → AreTicks n.circuit (ticks_of wave) → R s t → test_shown_from n p t wave ≡ shown_from n (tick_before p) s (ticks_of wave)
   shown_same p s t [] had ticks h = refl
   shown_same p s t (k ∷ wave) had ticks h =
-      let now : R (state_now n (tick_before p) s k.0) (test_state_now n p t k.0) = now_related p s t k had h in
+      let now : R (state_now n (tick_before p) s k.0) (test_state_now n p t k.0) = now_related p s t k had ticks.0 h in
       let first : outputs_at n (test_state_now n p t k.0) k.0.inputs ≡ outputs_at n (state_now n (tick_before p) s k.0) k.0.inputs = (kept (state_now n (tick_before p) s k.0) k.0.inputs now.long_s ticks.0 (test_state_now n p t k.0) now).outputs in
       let rest : test_shown_from n (Some k) (test_state_now n p t k.0) wave ≡ shown_from n (Some k.0) (state_now n (tick_before p) s k.0) (ticks_of wave) = shown_same (Some k) (state_now n (tick_before p) s k.0) (test_state_now n p t k.0) wave ticks.0 ticks.1 now in
       cc

@@ -11,6 +11,7 @@ abbrev pub unclocked : Circuit → RegisterCell ℕ ℕ → RegisterCell NetName
 unclocked c r =
     record {
       inputs = map (net_name c.names) r.inputs;
+      controls = map (net_name c.names) r.controls;
       outputs = map_outputs (net_name c.names) r.outputs;
       pins = r.pins;
       clock = None;

@@ -1,18 +1,20 @@
 -- A chain of delay registers behind a net: what the last shows is what the net showed so many cycles before.
-use Rattle.std.proofs.Common.{◌≡◌, ℕ, zero, suc, ◌-◌, ◌<◌, ◌≤◌, ◌⊎◌, Bool, true, false, List, ◌++◌, length, Some, refl, sym, ◌∙◌}
+use Rattle.std.proofs.Common.{◌≡◌, ℕ, zero, suc, ◌-◌, ◌<◌, ◌≤◌, ◌⊎◌, Bool, true, false, List, ◌++◌, length, slice_get, Some, refl, sym, ◌∙◌}
 use Rattle.std.proofs.Common.{ap, subst, arith, inl, inr, Ok}
 use Rattle.std.proofs.lemmas.Bool.{both_ways, cases_Bool}
 use Rattle.cg_net.specs.NetSets.{is_in}
 use Rattle.cg_netlist.specs.Moment.{bit}
 use Rattle.cg_machine.specs.Added.{Added, add_delay, delay_answer, delay_limit}
 use Rattle.cg_machine.specs.Extends.{Extends, HasDelay, old}
-use Rattle.cg_machine.specs.Machine.{IsInputs, IsMachine, IsNet, IsState, MachineData, next, step, values}
+use Rattle.cg_machine.specs.Machine.{IsInputs, IsMachine, IsNet, IsState, MachineData, at_rest, has_controls, next, step, values}
 use Rattle.cg_machine.specs.Run.{ones}
-use Rattle.cg_machine.proofs.Extended.{extends_self, extends_then, front_bit, old_bit, old_long, step_old}
+use Rattle.cg_machine.proofs.Bits.{same_bit}
+use Rattle.cg_machine.proofs.Extended.{extends_self, extends_then, front_bit, old_bit, old_long, rest_old, step_old}
+use Rattle.cg_machine.proofs.Forcing.{delay_uncontrolled, rest_free, rest_long}
 use Rattle.cg_machine.proofs.There.{delay_there}
 use Rattle.cg_stage_laws.proofs.Fitting.{ones_bit}
 use Rattle.cg_hint_laws.specs.Effects.{delayed_by}
-use Rattle.cg_hint_laws.specs.Hints.{KeepsAfter}
+use Rattle.cg_hint_laws.specs.Hints.{EqualUncontrolled, KeepsAfter}
 use Rattle.cg_hint_laws.proofs.Additions.{and_then_ok, inputs_on, or_limit_ok}
 
 -- a bit in each cycle, of a state and inputs
@@ -92,9 +94,9 @@ chain_there m clock clocked (suc k) a c good e is ok =
         }
 
 module _ (m n : MachineData) (good : IsMachine n) (m_good : IsMachine m) (e : Extends m n) (G : List ℕ) where
-  -- the registers of G keep their bits in the k-th cycle from now on
+  -- the registers of G keep their bits in the k-th cycle from now on, whatever is forced now
   abbrev pub Rests : ℕ → List Bool → Type 0
-  Rests k s = (r : ℕ) → is_in G r ≡ true → (x : List Bool) → IsInputs m x → KeepsAfter m k r (old m s) x
+  Rests k s = (r : ℕ) → is_in G r ≡ true → (t x : List Bool) → EqualUncontrolled m (old m s) t → IsInputs m x → KeepsAfter m k r t x
 
   -- what a signal that is 0 now promises, where a chain is this long
   abbrev pub Promises : Signal → ℕ → List Bool → List Bool → Type 0
@@ -108,7 +110,7 @@ module _ (m n : MachineData) (good : IsMachine n) (m_good : IsMachine m) (e : Ex
   -- so a register of the chain promises what a signal does
   promised : (d k : ℕ) (s x : List Bool) → IsInputs m x → (bit s d ≡ true) ⊎ Rests k s → Promises (λ s x. bit s d) k s x
   promised d k s x ins (inl on) off r among = absurd (both_ways (bit s d) off on)
-  promised d k s x ins (inr rests) off r among = rests r among x ins
+  promised d k s x ins (inr rests) off r among = rests r among (old m s) x (record { long = refl; equal = λ q free. refl }) ins
 
   -- it stays so in a cycle
   pub keeps_on : (signal : Signal) (k net : ℕ) (chain : Chain m n signal k net) (s x : List Bool) → IsState n s → IsInputs m x → Promises signal k s x
@@ -121,7 +123,26 @@ module _ (m n : MachineData) (good : IsMachine n) (m_good : IsMachine m) (e : Ex
     where
       now : (bit (step n s x) chain.0.register ≡ true) ⊎ (bit (step n s x) chain.0.register ≡ false) → (bit (step n s x) chain.0.register ≡ true) ⊎ Rests k (step n s x)
       now (inl on) = inl on
-      now (inr off) = inr (λ r among y iny. subst (λ u. KeepsAfter m k r u y) (sym (step_old m n m_good e s x long ins)) (due (sym (chain.0.takes s x long ins) ∙ off) r among y iny))
+      now (inr off) = inr (λ r among t y free iny. due (sym (chain.0.takes s x long ins) ∙ off) r among t y (subst (λ u. EqualUncontrolled m u t) (step_old m n m_good e s x long ins) free) iny)
+
+  -- and where the machine comes to rest
+  pub keeps_rest : (signal : Signal) (k net : ℕ) (chain : Chain m n signal k net) (s x : List Bool) → IsState n s → IsInputs m x → Keeps signal k net chain s
+      → Keeps signal k net chain (at_rest n s x)
+  keeps_rest signal zero net chain s x long ins keeps = tt
+  keeps_rest signal (suc k) net chain s x long ins keeps = (now keeps.0, keeps_rest (λ s x. bit s chain.0.register) k net chain.1 s x long ins keeps.1)
+    where
+      same : bit (at_rest n s x) chain.0.register ≡ bit s chain.0.register
+      same = same_bit (at_rest n s x) s chain.0.register (rest_free n s x long chain.0.register (delay_uncontrolled n good chain.0.register chain.0.added chain.0.below))
+
+      still : (q : ℕ) → has_controls m q ≡ false → slice_get (old m (at_rest n s x)) q ≡ slice_get (old m s) q
+      still q free = ap (λ u. slice_get u q) (rest_old m n m_good e s x long ins) ∙ rest_free m (old m s) x (old_long m n e s long) q free
+
+      now : (bit s chain.0.register ≡ true) ⊎ Rests k s → (bit (at_rest n s x) chain.0.register ≡ true) ⊎ Rests k (at_rest n s x)
+      now (inl on) = inl (same ∙ on)
+      now (inr rests) = inr (λ r among t y free iny. rests r among t y (record {
+        long = free.long ∙ (old_long m n e (at_rest n s x) (rest_long n s x long) ∙ sym (old_long m n e s long));
+        equal = λ q none. free.equal q none ∙ still q none;
+      }) iny)
 
   -- where the net at the end shows 0, the registers of G keep their bits
   pub keeps_now : (signal : Signal) (k net : ℕ) (chain : Chain m n signal k net) (s x : List Bool) → IsState n s → IsInputs m x → Promises signal k s x

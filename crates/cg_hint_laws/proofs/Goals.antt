@@ -7,7 +7,7 @@ use Rattle.std.proofs.lemmas.List.{length-map}
 use Rattle.cg_netlist.specs.Circuit.{data_inputs}
 use Rattle.cg_netlist.specs.Moment.{bit}
 use Rattle.cg_machine.specs.Claims.{Literal}
-use Rattle.cg_machine.specs.Machine.{IsMachine, MachineData, each_register, next, values}
+use Rattle.cg_machine.specs.Machine.{IsMachine, MachineData, next, values}
 use Rattle.cg_machine.proofs.Bits.{length-each}
 use Rattle.cg_claim.specs.declared.leaf.LeafSource.TheVariants.{Input, Register}
 use Rattle.cg_claim.specs.form.LeafBits.{free_of as form_free, leaf_bit}
@@ -21,19 +21,19 @@ use Rattle.cg_hint_laws.specs.Laws.{ClaimsAreForms, GoalViolates, HoldIsSaid, Id
 use Rattle.cg_hint_laws.specs.Leaves.{leaves_of, width_of}
 use Rattle.cg_hint_laws.specs.Question.{Question, form_of, hold_question, idle_question}
 use Rattle.cg_hint_laws.specs.Violates.{Free, IsAsked, IsFree, IsSometimesOne, free_of, goal_bit, is_never, state_at, violates, violates_at}
-use Rattle.cg_hint_laws.proofs.Along.{along_keeps, first_inputs, first_then, keeps_along}
+use Rattle.cg_hint_laws.proofs.Along.{Later, along_keeps, course, first_inputs, first_then, keeps_along}
 
 -- the bits that other questions have besides do not matter
 abbrev free : Free → FormFree
-free w = record { state = w.state; inputs = w.inputs; given = λ _. []; other = [] }
+free w = record { state = w.state; inputs = w.inputs; given = w.given; other = [] }
 
 module _ (m : MachineData) (q : Question) where
-  same_violates : (w : FormFree) → form_violates m (form_of q) w ≡ violates m q (kept w)
+  same_violates : (w : FormFree) → form_violates m (form_of m q) w ≡ violates m q (kept w)
   same_violates w = ap (λ s. not (condition_at (values m w.state (w.inputs 0)) q.terms) && changes m q.register s (w.inputs q.after)) (same_state q.after)
     where
-      same_state : (i : ℕ) → form_state m (form_of q) w i ≡ state_at m w.state w.inputs i
+      same_state : (i : ℕ) → form_state m (form_of m q) w i ≡ state_at m (kept w) i
       same_state zero = refl
-      same_state (suc i) = ap (λ s. each_register m (next m (values m s (w.inputs i)) s)) (same_state i)
+      same_state (suc i) = ap (λ s. Later m (w.given (suc i)) s (w.inputs i)) (same_state i)
 
   -- free bits from bits of leaves
   pub free_is : (bits : List Bool) → IsFree m (free_of m (leaves_of m q) bits)
@@ -43,24 +43,24 @@ module _ (m : MachineData) (q : Question) where
   }
 
   module _ (good : IsMachine m) (asked : IsAsked m q) where
-    form_asked : IsFormAsked m (form_of q)
+    form_asked : IsFormAsked m (form_of m q)
     form_asked = record { literals = asked.literals; ends = asked.register; apart = λ y is. refl }
 
     at_leaves : (bits : List Bool) → goal_bit m q bits ≡ violates_at m q bits
-    at_leaves bits = C.at_leaves m good (form_of q) form_asked refl bits ∙ same_violates (form_free m (suc q.after) (leaves_of m q) bits)
+    at_leaves bits = C.at_leaves m good (form_of m q) form_asked refl bits ∙ same_violates (form_free m (suc q.after) (leaves_of m q) bits)
 
     -- the bits of the leaves, from free bits
     abbrev leaves_from : Free → List Bool
-    leaves_from w = C.bits_from m good (form_of q) form_asked (free w)
+    leaves_from w = C.bits_from m good (form_of m q) form_asked (free w)
 
     at_free : (w : Free) → IsFree m w → goal_bit m q (leaves_from w) ≡ violates m q w
-    at_free w is = C.at_free m good (form_of q) form_asked (free w) (record { state = is.state; inputs = is.inputs }) ∙ same_violates (free w)
+    at_free w is = C.at_free m good (form_of m q) form_asked (free w) (record { state = is.state; inputs = is.inputs }) ∙ same_violates (free w)
 
     long_from : (w : Free) → length (leaves_from w) ≡ width_of m q
-    long_from w = C.long_from m good (form_of q) form_asked (free w)
+    long_from w = C.long_from m good (form_of m q) form_asked (free w)
 
     pub goal_number : (claim_run m q).domain.number ≡ width_of m q
-    goal_number = C.goal_number m good (form_of q) form_asked refl
+    goal_number = C.goal_number m good (form_of m q) form_asked refl
 
 pub claims_are_forms : ClaimsAreForms
 claims_are_forms m q = record { leaves = refl; claim = refl; violated = same_violates m q }
@@ -85,19 +85,19 @@ pub hold_is_said : HoldIsSaid
 hold_is_said m terms k r good some below =
     let q : Question = hold_question terms k r in
     let asked : IsAsked m q = hold_asked m terms k r some below in (
-      (λ never s x long ins idle. along_keeps m k r s x ins (λ xs more.
-          let w : Free = record { state = s; inputs = first_then x xs } in
+      (λ never s x long ins idle. along_keeps m k r s x ins (λ xs given more.
+          let w : Free = course s x xs given in
           let free : IsFree m w = record { state = long; inputs = first_inputs m x xs ins more } in
-          let t : List Bool = state_at m s (first_then x xs) k in
+          let t : List Bool = state_at m w k in
           from_clash (condition_at (values m s x) terms) (next m (values m t (first_then x xs k)) t r) (bit t r)
           (sym (at_free m q good asked w free) ∙ never (leaves_from m q good asked w) (long_from m q good asked w)) idle)),
       (λ hold bits long.
           let w : Free = free_of m (leaves_of m q) bits in
           let free : IsFree m w = free_is m q bits in
-          let t : List Bool = state_at m w.state w.inputs k in
+          let t : List Bool = state_at m w k in
           at_leaves m q good asked bits
           ∙ no_clash (condition_at (values m w.state (w.inputs 0)) terms) (next m (values m t (w.inputs k)) t r) (bit t r)
-          (λ idle. keeps_along m k r w.state w.inputs free.inputs (hold w.state (w.inputs 0) free.state (free.inputs 0) idle))),
+          (λ idle. keeps_along m k r w free.inputs (hold w.state (w.inputs 0) free.state (free.inputs 0) idle))),
     )
 
 -- free bits that violate the claim of Idle show that the condition can be 0
@@ -115,7 +115,7 @@ idle_is_said m terms good some =
       (λ (one : IsSometimesOne m q).
           can_idle m terms (free_of m (leaves_of m q) one.bits) (free_is m q one.bits) (sym (at_leaves m q good asked one.bits) ∙ one.one)),
       (λ (can : CanIdle m terms).
-          let w : Free = record { state = can.state; inputs = λ i. can.inputs } in
+          let w : Free = record { state = can.state; inputs = λ i. can.inputs; given = λ i. [] } in
           let free : IsFree m w = record { state = can.is_state; inputs = λ i. can.is_inputs } in
           record { bits = leaves_from m q good asked w; long = long_from m q good asked w; one = at_free m q good asked w free ∙ ap (λ b. not b && true) can.idle }),
     )

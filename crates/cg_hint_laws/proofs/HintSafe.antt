@@ -13,10 +13,11 @@ use Rattle.cg_netlist.proofs.RisingPlaces.{in_head}
 use Rattle.cg_netlist.proofs.Values.{element_at}
 use Rattle.cg_machine.specs.Added.{Added, give}
 use Rattle.cg_machine.specs.Extends.{Extends, old}
-use Rattle.cg_machine.specs.Machine.{IsInputs, IsMachine, IsState, MachineData, enable_of, next, outputs_at, step, values}
+use Rattle.cg_machine.specs.Machine.{IsInputs, IsMachine, IsState, MachineData, at_rest, enable_of, next, outputs_at, step, values}
 use Rattle.cg_machine.specs.Run.{Same, Simulates, with_enables}
 use Rattle.cg_machine.proofs.Bits.{length-each}
 use Rattle.cg_machine.proofs.Extended.{extends_same, extends_self, extends_then, next_old, old_bit, old_long}
+use Rattle.cg_machine.proofs.Forcing.{rest_long}
 use Rattle.cg_machine.proofs.Gated.{Gives, gated-off, gated-on, gated-outside, step_by}
 use Rattle.cg_machine.proofs.Simulation.{same_by, same_then}
 use Rattle.cg_stage_laws.specs.Joined.{enabled}
@@ -26,7 +27,7 @@ use Rattle.cg_hint_laws.specs.Effects.{condition_answer, delayed_by, effect, hin
 use Rattle.cg_hint_laws.specs.Hints.{AreFree, ClaimsHold, Fits}
 use Rattle.cg_hint_laws.specs.Laws.{After}
 use Rattle.cg_hint_laws.proofs.Additions.{Adds, and_then_ok, shown_later}
-use Rattle.cg_hint_laws.proofs.Chains.{Chain, Delayed, Keeps, Promises, Signal, chain_there, keeps_first, keeps_now, keeps_on}
+use Rattle.cg_hint_laws.proofs.Chains.{Chain, Delayed, Keeps, Promises, Signal, chain_there, keeps_first, keeps_now, keeps_on, keeps_rest}
 use Rattle.cg_hint_laws.proofs.Conditions.{condition_adds, condition_says, terms_are}
 
 -- registers of G get the net at the end of a chain
@@ -58,6 +59,11 @@ module _ (m n : MachineData) (m_good : IsMachine m) (good : IsMachine n) (e : Ex
           ap (λ u. step (with_enables n es) u x) h.1 ∙ step_by n G None net es gives s x (next_same s x h.0 inm h.2),
           keeps_on m n good m_good e G signal k net chain s x h.0 inm (due s x h.0 inm) h.2,
         );
+    rests = λ s t x h ins. (
+      rest_long n s x h.0,
+      ap (λ u. at_rest n u x) h.1,
+      keeps_rest m n good m_good e G signal k net chain s x h.0 (ins ∙ ap length e.inputs) h.2,
+    );
   }
 
   pub hint_same : Same n (with_enables n es)

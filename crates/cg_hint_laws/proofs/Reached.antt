@@ -1,6 +1,6 @@
 -- What a question reaches in its cycles: registers that are there, and all that the next cycle and the goal ask for.
-use Rattle.std.proofs.Common.{◌≡◌, ℕ, zero, suc, ◌+◌, ◌-◌, ◌<◌, ◌≤◌, true, false, [], length}
-use Rattle.std.proofs.Common.{Option, None, Some, refl, sym, ap, subst, arith, inl, inr}
+use Rattle.std.proofs.Common.{◌≡◌, ℕ, zero, suc, ◌+◌, ◌-◌, ◌<◌, ◌≤◌, true, false, if◌then◌else◌, [], length}
+use Rattle.std.proofs.Common.{Option, None, Some, refl, sym, ◌∙◌, ap, subst, arith, inl, inr}
 use Rattle.std.specs.List.{filter}
 use Rattle.std.proofs.lemmas.Bool.{and_from, both_ways, eq-eqb, eqb-true, or_cases, or_left, or_right}
 use Rattle.cg_net.specs.NetSets.{is_in}
@@ -8,7 +8,7 @@ use Rattle.cg_net.proofs.Members.{is_in_left, is_in_right}
 use Rattle.cg_netlist.proofs.Filtered.{range_in, to_filter}
 use Rattle.cg_netlist.proofs.WalkOrder.{in_each}
 use Rattle.cg_netlist_cone.proofs.Cones.{cone_has}
-use Rattle.cg_machine.specs.Machine.{MachineData, walk_of}
+use Rattle.cg_machine.specs.Machine.{MachineData, has_controls, walk_of}
 use Rattle.cg_claim.specs.Question.{idle_question}
 use Rattle.cg_claim.specs.Reach.{feeds, next_asks_own, next_nets, registers_of}
 use Rattle.cg_claim.proofs.Reached.{and_first, feeds_within}
@@ -34,7 +34,7 @@ module _ (m : MachineData) (q : Question) (asked : IsAsked m q) where
       go (Some k) is h = subst (λ n. n < length m.circuit.registers) (sym (eqb-true r k h)) (asked.register k is)
   back_within (suc j) r asks =
       let a : Asked = asked_back m q.register j in
-      reached_within a (back_within j) r (and_first (reached_states m a r) (next_asks_own m r) asks)
+      reached_within a (back_within j) r (and_first (reached_states m a r) (if has_controls m r then false else next_asks_own m r) asks)
 
   pub asked_within : (i r : ℕ) → (asked_of m q i).states r ≡ true → r < length m.circuit.registers
   asked_within zero r asks = back_within (q.after - 0) r asks
@@ -81,13 +81,15 @@ module _ (m : MachineData) (q : Question) (asked : IsAsked m q) where
     back_is : asked_back m q.register (q.after - i) ≡ asked_before m (asked_of m q (suc i))
     back_is = let e : q.after - i ≡ suc (q.after - suc i) = omega arith in ap (asked_back m q.register) e
 
-    pub origin_nets : (r : ℕ) → states_of m q (suc i) r ≡ true → (y : ℕ) → is_in (next_nets m r) y ≡ true → is_in (nets_of m q i) y ≡ true
-    origin_nets r reached y among =
+    pub origin_nets : (r : ℕ) → states_of m q (suc i) r ≡ true → has_controls m r ≡ false → (y : ℕ) → is_in (next_nets m r) y ≡ true → is_in (nets_of m q i) y ≡ true
+    origin_nets r reached free y among =
         let zero_r : 0 + r ≡ r = omega arith in
         let there = subst (λ k. is_in (registers_of m) k ≡ true) zero_r (range_in (length m.circuit.registers) 0 r (states_within (suc i) r reached)) in
         asked_nets i y (subst (λ (a : Asked). is_in a.nets y ≡ true) (sym back_is)
-        (in_each (next_nets m) (filter (states_of m q (suc i)) (registers_of m)) r y (to_filter (states_of m q (suc i)) (registers_of m) r there reached) among))
+        (in_each (λ k. if has_controls m k then [] else next_nets m k) (filter (states_of m q (suc i)) (registers_of m)) r y (to_filter (states_of m q (suc i)) (registers_of m) r there reached)
+        (subst (λ b. is_in (if b then [] else next_nets m r) y ≡ true) (sym free) among)))
 
-    pub origin_state : (r : ℕ) → states_of m q (suc i) r ≡ true → next_asks_own m r ≡ true → states_of m q i r ≡ true
-    origin_state r reached own =
-        asked_states i r (subst (λ (a : Asked). a.states r ≡ true) (sym back_is) (and_from (states_of m q (suc i) r) (next_asks_own m r) reached own))
+    pub origin_state : (r : ℕ) → states_of m q (suc i) r ≡ true → has_controls m r ≡ false → next_asks_own m r ≡ true → states_of m q i r ≡ true
+    origin_state r reached free own =
+        asked_states i r (subst (λ (a : Asked). a.states r ≡ true) (sym back_is)
+        (and_from (states_of m q (suc i) r) (if has_controls m r then false else next_asks_own m r) reached (ap (λ b. if b then false else next_asks_own m r) free ∙ own)))

@@ -7,13 +7,15 @@ use Rattle.cg_machine.specs.Added.{Added}
 use Rattle.cg_machine.specs.Extends.{Extends}
 use Rattle.cg_machine.specs.Machine.{IsInputs, IsMachine, IsState, MachineData, step, values}
 use Rattle.cg_machine.specs.Run.{ones}
+use Rattle.cg_machine.proofs.Bits.{same_bit}
 use Rattle.cg_machine.proofs.Extended.{extends_self}
+use Rattle.cg_machine.proofs.Forcing.{delay_uncontrolled}
 use Rattle.cg_stage_laws.proofs.Fitting.{ones_bit, starts_long}
 use Rattle.cg_hint_laws.specs.Effects.{condition_answer, delayed_by}
 use Rattle.cg_hint_laws.specs.Laws.{ChainTells, HoldIsAlong}
-use Rattle.cg_hint_laws.specs.Violates.{state_at}
+use Rattle.cg_hint_laws.specs.Violates.{Free, state_at}
 use Rattle.cg_hint_laws.proofs.Additions.{and_then_ok, shown_later}
-use Rattle.cg_hint_laws.proofs.Along.{AreInputs, along_keeps, first_inputs, first_then, keeps_along, state_long}
+use Rattle.cg_hint_laws.proofs.Along.{AreInputs, along_keeps, course, first_inputs, keeps_along, later_equal, state_long}
 use Rattle.cg_hint_laws.proofs.Chains.{Chain, Signal, chain_there}
 use Rattle.cg_hint_laws.proofs.Conditions.{condition_adds, condition_says, terms_are}
 use Rattle.cg_hint_laws.proofs.HintSafe.{clocked}
@@ -28,18 +30,23 @@ abbrev just_before : Signal → (ℕ → List Bool) → (ℕ → List Bool) → 
 just_before signal states xs zero = true
 just_before signal states xs (suc i) = signal (states i) (xs i)
 
-module _ (m n : MachineData) (good : IsMachine n) (e : Extends m n) (start : List Bool) (xs : ℕ → List Bool) (long : length start ≡ n.own_registers) (ins : AreInputs m xs) where
+module _ (m n : MachineData) (good : IsMachine n) (e : Extends m n) (start : List Bool) (xs given : ℕ → List Bool) (long : length start ≡ n.own_registers) (ins : AreInputs m xs) where
+  abbrev from_start : Free
+  from_start = record { state = start ++ ones n; inputs = xs; given = given }
+
   abbrev states : ℕ → List Bool
-  states i = state_at n (start ++ ones n) xs i
+  states i = state_at n from_start i
 
   states_long : (i : ℕ) → IsState n (states i)
-  states_long i = state_long n (start ++ ones n) xs i (starts_long n good.own_registers start long)
+  states_long i = state_long n from_start i (starts_long n good.own_registers start long)
 
   -- what a delay register holds
   held : (signal : Signal) (d : ℕ) → n.own_registers ≤ d → d < length n.circuit.registers → ((s x : List Bool) → IsState n s → IsInputs m x → bit (step n s x) d ≡ signal s x)
       → (i : ℕ) → bit (states i) d ≡ just_before signal states xs i
   held signal d low high takes zero = ones_bit start (length n.circuit.registers - n.own_registers) d (omega (arith, long, low)) (omega (arith, long, high, good.own_registers))
-  held signal d low high takes (suc i) = takes (states i) (xs i) (states_long i) (ins i)
+  held signal d low high takes (suc i) =
+      same_bit (states (suc i)) (step n (states i) (xs i)) d ((later_equal n (given (suc i)) (states i) (xs i)).equal d (delay_uncontrolled n good d low high))
+      ∙ takes (states i) (xs i) (states_long i) (ins i)
 
   once_more : (signal : Signal) (k : ℕ) (d : ℕ) → ((i : ℕ) → bit (states i) d ≡ just_before signal states xs i) → (i : ℕ) → ago (λ s x. bit s d) k states xs i ≡ ago signal (suc k) states xs i
   once_more signal k d holds i = go (nat_lt i k) refl (nat_lt i (suc k)) refl
@@ -67,7 +74,7 @@ module _ (m n : MachineData) (good : IsMachine n) (e : Extends m n) (start : Lis
       chain_tells (λ s x. bit s d) k net chain.1 i ∙ once_more signal k d (held signal d chain.0.added chain.0.below chain.0.takes) i
 
 pub net_tells : ChainTells
-net_tells m h c good fits ok start xs i long ins =
+net_tells m h c good fits ok start xs given i long ins =
     let first = and_then_ok (condition_answer m h.terms) (delayed_by h.after) c ok in
     let a : Added = first.0 in
     let adds = condition_adds m m h.terms a good (extends_self m) fits.terms (terms_are m h.terms fits.literals fits.nets) first.1 in
@@ -76,11 +83,12 @@ net_tells m h c good fits ok start xs i long ins =
     let n : MachineData = c.machine in
     let later = shown_later m (condition_says m h.terms) a n adds.shows delayed.good delayed.grows in
     let own : length start ≡ n.own_registers = long ∙ sym later.extends.own in
-    chain_tells m n delayed.good later.extends start xs own ins (λ s x. bit (values n s x) a.net) h.after c.net delayed.chain i
-    ∙ ap (λ r. if nat_lt i h.after then true else r) (later.shows (states m n delayed.good later.extends start xs own ins (i - h.after)) (xs (i - h.after)) (states_long m n delayed.good later.extends start xs own ins (i - h.after)) (ins (i - h.after)))
+    chain_tells m n delayed.good later.extends start xs given own ins (λ s x. bit (values n s x) a.net) h.after c.net delayed.chain i
+    ∙ ap (λ r. if nat_lt i h.after then true else r) (later.shows (states m n delayed.good later.extends start xs given own ins (i - h.after)) (xs (i - h.after)) (states_long m n delayed.good later.extends start xs given own ins (i - h.after)) (ins (i - h.after)))
 
 pub hold_is_along : HoldIsAlong
 hold_is_along m terms k r = (
-  (λ hold s xs long ins idle. keeps_along m k r s xs ins (hold s (xs 0) long (ins 0) idle)),
-  (λ along s x long ins idle. along_keeps m k r s x ins (λ xs more. along s (first_then x xs) long (first_inputs m x xs ins more) idle)),
+  (λ hold w is idle. keeps_along m k r w is.inputs (hold w.state (w.inputs 0) is.state (is.inputs 0) idle)),
+  (λ along s x long ins idle.
+      along_keeps m k r s x ins (λ xs given more. along (course s x xs given) (record { state = long; inputs = first_inputs m x xs ins more }) idle)),
 )

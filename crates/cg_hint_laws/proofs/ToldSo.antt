@@ -1,6 +1,6 @@
 -- The claims of a hint as what they say, the first that is false, and the end of the chain that its registers get.
 use Rattle.std.proofs.Common.{◌≡◌, ℕ, zero, suc, ◌<◌, Bool, true, false, not, if◌then◌else◌, List, [], ◌∷◌, slice_get, None, Some}
-use Rattle.std.proofs.Common.{refl, sym, ◌∙◌, ap, subst, arith, Ok, ◌⊎◌}
+use Rattle.std.proofs.Common.{refl, sym, ◌∙◌, ap, subst, arith, Ok}
 use Rattle.std.specs.List.{find}
 use Rattle.std.proofs.lemmas.Bool.{both_ways, not-false, not-true}
 use Rattle.std.proofs.lemmas.Option.{same_Some}

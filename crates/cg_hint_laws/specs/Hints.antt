@@ -1,11 +1,11 @@
 -- Hints on a machine: when one fits, and what it claims.
-use Rattle.std.specs.Prelude.{◌≡◌, ◌<◌, ◌≤◌, ℕ, zero, suc, nat_eq, Bool, true, false, List, map, length, None}
+use Rattle.std.specs.Prelude.{◌≡◌, ◌<◌, ◌≤◌, ℕ, zero, suc, nat_eq, Bool, true, false, List, map, length, slice_get, None}
 use Rattle.std.specs.List.{All, IsDistinct, flat_map}
 use Rattle.cg_cell.specs.Gates.{all_of, any_of}
 use Rattle.cg_net.specs.NetSets.{is_in}
 use Rattle.cg_netlist.specs.Moment.{bit}
 use Rattle.cg_machine.specs.Claims.{Literal, literal_bit}
-use Rattle.cg_machine.specs.Machine.{IsInputs, IsNet, IsState, MachineData, enable_of, next, step, values}
+use Rattle.cg_machine.specs.Machine.{IsInputs, IsNet, IsState, MachineData, enable_of, has_controls, next, step, values}
 use Rattle.cg_hint_laws.specs.declared.hint.Hint.{Hint}
 
 -- whether all literals of a term are 1
@@ -28,10 +28,16 @@ pub record CanIdle (m : MachineData) (terms : List (List Literal)) : Type 0 wher
   pub is_inputs : IsInputs m inputs
   pub idle : condition_at (values m state inputs) terms ≡ false
 
--- register r keeps its bit in the k-th cycle after this one, whatever the inputs are until then; for k = 0 in this one
+-- t is s, but for the bits of registers with controls, which may be any
+pub record EqualUncontrolled (m : MachineData) (s t : List Bool) : Type 0 where
+  pub long : length t ≡ length s
+  pub equal : (r : ℕ) → has_controls m r ≡ false → slice_get t r ≡ slice_get s r
+
+-- register r keeps its bit in the k-th cycle after this one, whatever the inputs are until then and whatever is forced at registers with
+-- controls from cycle to cycle; for k = 0 in this one
 abbrev pub KeepsAfter : MachineData → ℕ → ℕ → List Bool → List Bool → Type 0
 KeepsAfter m zero r s x = next m (values m s x) s r ≡ bit s r
-KeepsAfter m (suc k) r s x = (y : List Bool) → IsInputs m y → KeepsAfter m k r (step m s x) y
+KeepsAfter m (suc k) r s x = (t y : List Bool) → EqualUncontrolled m (step m s x) t → IsInputs m y → KeepsAfter m k r t y
 
 -- k cycles after one in which the condition was 0, register r keeps its bit
 abbrev pub HintHold : MachineData → List (List Literal) → ℕ → ℕ → Type 0

@@ -11,7 +11,7 @@ use Rattle.cg_claim.specs.form.Violates.{Free as FormFree, violates as form_viol
 use Rattle.cg_machine.specs.Added.{Added, HasNames, own_netlist}
 use Rattle.cg_machine.specs.Extends.{old}
 use Rattle.cg_machine.specs.Claims.{Literal}
-use Rattle.cg_machine.specs.Machine.{IsInputs, IsMachine, IsState, MachineData, enable_of, next, values}
+use Rattle.cg_machine.specs.Machine.{IsInputs, IsMachine, MachineData, enable_of, next, values}
 use Rattle.cg_machine.specs.Run.{Same, ones}
 use Rattle.cg_stage_laws.specs.Cells.{HasCells}
 use Rattle.cg_stage_laws.specs.Needs.{missing}
@@ -26,7 +26,7 @@ use Rattle.cg_hint_laws.specs.Leaves.{leaves_of}
 use Rattle.cg_hint_laws.specs.Needs.{needs}
 use Rattle.cg_hint_laws.specs.Question.{Question, form_of, hold_question, idle_question}
 use Rattle.cg_hint_laws.specs.Trying.{Hinted, Turn, all_claims, claim_nodes, claim_width, hinted, tried}
-use Rattle.cg_hint_laws.specs.Violates.{Free, IsAsked, IsNeverOne, IsSometimesOne, goal_bit, is_never, state_at, violates, violates_at}
+use Rattle.cg_hint_laws.specs.Violates.{Free, IsAsked, IsFree, IsNeverOne, IsSometimesOne, goal_bit, is_never, state_at, violates, violates_at}
 
 -- n is m after a hint: it is a machine that shows the same, all nets and registers of m are in it, and the registers that the hint
 -- does not name have the enables that they have in m
@@ -44,12 +44,13 @@ pub record After (m : MachineData) (h : Hint) (n : MachineData) : Type 0 where
 abbrev pub HintIsSafe : Type 0
 HintIsSafe = (m n : MachineData) (h : Hint) → IsMachine m → Fits m h → AreFree m h → ClaimsHold m h → effect m h ≡ Ok n → After m h n
 
--- The net that the registers of a hint get shows, in each cycle of each run from a start with 1 in the delay registers, what the
--- condition was as many cycles before as the hint says, or 1 where there were fewer.
+-- The net that the registers of a hint get shows, in each cycle of each course from a start with 1 in the delay registers, what the
+-- condition was as many cycles before as the hint says, or 1 where there were fewer. In a course each register without controls takes its
+-- next bit from cycle to cycle, and one with controls has any bits.
 abbrev pub ChainTells : Type 0
 ChainTells = (m : MachineData) (h : Hint) (c : Added) → IsMachine m → Fits m h → hint_answer m h ≡ Ok c
-    → (start : List Bool) (xs : ℕ → List Bool) (i : ℕ) → length start ≡ m.own_registers → ((j : ℕ) → IsInputs m (xs j))
-    → let state : ℕ → List Bool = λ j. state_at c.machine (start ++ ones c.machine) xs j in
+    → (start : List Bool) (xs given : ℕ → List Bool) (i : ℕ) → length start ≡ m.own_registers → ((j : ℕ) → IsInputs m (xs j))
+    → let state : ℕ → List Bool = λ j. state_at c.machine (record { state = start ++ ones c.machine; inputs = xs; given = given }) j in
     bit (values c.machine (state i) (xs i)) c.net
     ≡ (if nat_lt i h.after then true else condition_at (values m (old m (state (i - h.after))) (xs (i - h.after))) h.terms)
 
@@ -58,12 +59,12 @@ abbrev pub RegistersGetChain : Type 0
 RegistersGetChain = (m n : MachineData) (h : Hint) (c : Added) → IsMachine m → Fits m h → AreFree m h → hint_answer m h ≡ Ok c →
     effect m h ≡ Ok n → (r : ℕ) → is_in h.regs r ≡ true → enable_of n r ≡ Some c.net
 
--- what a hint claims of a register, said of all states and all courses of inputs in which every register takes its next bit from cycle
--- to cycle
+-- what a hint claims of a register, said of all courses: from any state, with any inputs in each cycle, in which each register without
+-- controls takes its next bit from cycle to cycle, and one with controls has any bits
 abbrev pub HoldIsAlong : Type 0
 HoldIsAlong = (m : MachineData) (terms : List (List Literal)) (k r : ℕ) → HintHold m terms k r
-    ↔ ((s : List Bool) (xs : ℕ → List Bool) → IsState m s → ((j : ℕ) → IsInputs m (xs j))
-    → condition_at (values m s (xs 0)) terms ≡ false → let t = state_at m s xs k in next m (values m t (xs k)) t r ≡ bit t r)
+    ↔ ((w : Free) → IsFree m w → condition_at (values m w.state (w.inputs 0)) terms ≡ false
+    → let t = state_at m w k in next m (values m t (w.inputs k)) t r ≡ bit t r)
 
 -- at bits of its leaves a goal is 1 exactly where these bits violate the claim
 abbrev pub GoalViolates : Type 0
@@ -75,14 +76,14 @@ NeverIsTried = (m : MachineData) (q : Question) → IsMachine m → IsAsked m q 
 
 -- the free bits of a question of the common form, as the claims of hints have them
 abbrev pub kept : FormFree → Free
-kept w = record { state = w.state; inputs = w.inputs }
+kept w = record { state = w.state; inputs = w.inputs; given = w.given }
 
 -- A claim of a hint is a question of the common form: both have the same leaves in the same order, the same list with the same goal, and
 -- the same bits violate them.
 pub record IsSame (m : MachineData) (q : Question) : Type 0 where
-  pub leaves : form_leaves m (form_of q) ≡ leaves_of m q
-  pub claim : form_run m (form_of q) ≡ claim_run m q
-  pub violated : (w : FormFree) → form_violates m (form_of q) w ≡ violates m q (kept w)
+  pub leaves : form_leaves m (form_of m q) ≡ leaves_of m q
+  pub claim : form_run m (form_of m q) ≡ claim_run m q
+  pub violated : (w : FormFree) → form_violates m (form_of m q) w ≡ violates m q (kept w)
 
 abbrev pub ClaimsAreForms : Type 0
 ClaimsAreForms = (m : MachineData) (q : Question) → IsSame m q

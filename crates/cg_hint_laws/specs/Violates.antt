@@ -1,9 +1,10 @@
 -- When bits of a machine violate a claim of a hint.
-use Rattle.std.specs.Prelude.{◌≡◌, ◌<◌, ℕ, zero, suc, Bool, true, false, not, ◌&&◌, List, map, length, Some}
+use Rattle.std.specs.Prelude.{◌≡◌, ◌<◌, ℕ, zero, suc, Bool, true, false, not, ◌&&◌, if◌then◌else◌, List, map, length, Some}
 use Rattle.std.specs.List.{All, list_all}
 use Rattle.cg_aig.specs.Aig.{aig_ops}
 use Rattle.cg_netlist.specs.Circuit.{data_inputs}
-use Rattle.cg_machine.specs.Machine.{IsInputs, IsState, MachineData, each_register, step, values}
+use Rattle.cg_netlist.specs.Moment.{bit}
+use Rattle.cg_machine.specs.Machine.{IsInputs, IsState, MachineData, each_register, has_controls, next, values}
 use Rattle.cg_claim.specs.LeafBits.{all_bits}
 use Rattle.cg_claim.specs.declared.leaf.Leaf.{Leaf}
 use Rattle.cg_claim.specs.declared.leaf.LeafSource.TheVariants.{Input, Register}
@@ -14,26 +15,31 @@ use Rattle.cg_hint_laws.specs.Hints.{condition_at}
 use Rattle.cg_hint_laws.specs.Leaves.{leaves_of, width_of}
 use Rattle.cg_hint_laws.specs.Question.{Question}
 
--- free bits: the state of the first cycle, and the inputs of each cycle
+-- free bits: the state of the first cycle, the inputs of each cycle, and the bits that registers with controls have in each later one
 pub record Free : Type 0 where
   pub state : List Bool
   pub inputs : ℕ → List Bool
+  pub given : ℕ → List Bool
 
--- there are as many as is asked
+-- state and inputs have as many as is asked; `given` may have any number, and is 0 past its end
 pub record IsFree (m : MachineData) (w : Free) : Type 0 where
   pub state : IsState m w.state
   pub inputs : (i : ℕ) → IsInputs m (w.inputs i)
 
--- the state of cycle i: every register takes its next bit from cycle to cycle
-abbrev pub state_at : MachineData → List Bool → (ℕ → List Bool) → ℕ → List Bool
-state_at m s xs zero = s
-state_at m s xs (suc i) = step m (state_at m s xs i) (xs i)
+-- the bit of a register after a cycle: its next bit, or a given one where it has controls, since these may force it before the next cycle
+abbrev pub bit_after : MachineData → List Bool → List Bool → List Bool → ℕ → Bool
+bit_after m given nets state r = if has_controls m r then bit given r else next m nets state r
+
+-- the state of cycle i, counted from 0
+abbrev pub state_at : MachineData → Free → ℕ → List Bool
+state_at m w zero = w.state
+state_at m w (suc i) = each_register m (bit_after m (w.given (suc i)) (values m (state_at m w i) (w.inputs i)) (state_at m w i))
 
 -- whether free bits violate a claim: the condition is 0 in the first cycle, and the register changes its bit in the last
 abbrev pub violates : MachineData → Question → Free → Bool
 violates m q w =
     not (condition_at (values m w.state (w.inputs 0)) q.terms)
-    && changes m q.register (state_at m w.state w.inputs q.after) (w.inputs q.after)
+    && changes m q.register (state_at m w q.after) (w.inputs q.after)
 
 -- the free bits of which the leaves have these bits, and all others are 0
 abbrev pub free_of : MachineData → List Leaf → List Bool → Free
@@ -41,6 +47,7 @@ free_of m leaves bits =
     record {
       state = each_register m (λ r. leaf_bit leaves bits 0 (Register r));
       inputs = λ i. map (λ y. leaf_bit leaves bits i (Input y)) (data_inputs m.circuit);
+      given = λ i. each_register m (λ r. leaf_bit leaves bits i (Register r));
     }
 
 -- whether bits of the leaves violate a claim

@@ -15,3 +15,4 @@ pub mod Shown
 pub mod Taken
 pub mod Trials
 pub mod Widths
+pub mod Heard

@@ -1,2 +1,3 @@
 pub mod HoldAnswer
+pub mod Progress
 pub mod inner

@@ -4,6 +4,7 @@ ghost use Rattle.std.specs.Prelude.{◌≡◌, ◌<◌, ◌*◌, ◌++◌, [], l
 ghost use Rattle.std.specs.List.{cons_option, filter_map, range_with_len};
 ghost use Rattle.std.specs.Option.{option_copied};
 ghost use Rattle.cg_hold.specs.HoldAnswer.{hold_answer};
+ghost use Rattle.cg_hold.specs.Progress.{Hears, HearsFirst, registers_told};
 ghost use Rattle.cg_hold.specs.inner.Choosing.{stage_at, AreChosen, FitsChoice, passes_at, wide_by, with_choice};
 ghost use Rattle.cg_hold.specs.inner.Packed.{literal_place};
 ghost use Rattle.cg_limit.specs.Answers.{OrNoMemory};
@@ -48,7 +49,7 @@ pub struct HoldFound {
 /// It is refused by `Limit(ClaimNodes)` exactly where the hold claim of a literal that is looked at has more than 65,536
 /// leaves and and-nodes.
 ///
-/// Of each register `progress` is told before it is looked at.
+/// Of each register `progress` is told before it is looked at, in order.
 pub fn candidates(
     alloc: Global,
     machine: &Machine,
@@ -58,6 +59,8 @@ pub fn candidates(
 ) -> Result<HoldFound, AddFault>
     requires { FitZeroCounts machine.now (option_copied counts) }
     ensures answer { OrNoMemory NoMemory (λ found. found) result (hold_answer machine.now (option_copied counts.entry) width) }
+    ensures first { HearsFirst (heard progress.old) (registers_told machine.now.own_registers) (heard progress.new) }
+    ensures all { OnOk result (Hears (heard progress.old) (registers_told machine.now.own_registers) (heard progress.new)) }
 {
     let _netlist = machine.netlist();
     let chosen = Chosen::of(alloc, machine, width, counts, progress)?;
@@ -78,6 +81,7 @@ struct Chosen {
 
 impl Chosen {
     /// What comes of all registers of a machine's netlist that have no enable.
+    #[tactic(auto, using(crate::proofs::Heard::first_none))]
     pub fn of(
         alloc: Global,
         machine: &Machine,
@@ -90,6 +94,8 @@ impl Chosen {
             (λ chosen. AreChosen machine.now (option_copied counts.entry) width machine.now.own_registers chosen.lists.items chosen.wide) }
         ensures refused { IfErr result
             (λ fault. (fault ≡ NoMemory) ⊎ ((fault ≡ LimitFault ClaimNodes) × (hold_passes machine.now (option_copied counts.entry) width ≡ true))) }
+        ensures first { HearsFirst (heard progress.old) (registers_told machine.now.own_registers) (heard progress.new) }
+        ensures all { OnOk result (Hears (heard progress.old) (registers_told machine.now.own_registers) (heard progress.new)) }
     {
         let _netlist = machine.netlist();
         let mut chosen = Chosen::none(alloc, machine.nets())?;
@@ -133,6 +139,8 @@ impl Chosen {
         ensures refused { IfErr result
             (λ fault. (fault ≡ NoMemory) ⊎ ((fault ≡ LimitFault ClaimNodes)
             × (hold_passes search.now.machine.now (option_copied search.now.counts) search.now.width ≡ true))) }
+        ensures first { HearsFirst (heard progress.old) (registers_told search.now.machine.now.own_registers) (heard progress.new) }
+        ensures all { OnOk result (Hears (heard progress.old) (registers_told search.now.machine.now.own_registers) (heard progress.new)) }
     {
         let registers = search.machine.netlist().registers();
         for reg in 0..registers {

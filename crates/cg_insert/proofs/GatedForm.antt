@@ -18,9 +18,10 @@ use Rattle.cg_cell.specs.Pins.{is_test}
 use Rattle.cg_cell.specs.declared.cell.CellKind.TheVariants.{Gater as GaterKind}
 use Rattle.cg_netlist.specs.Circuit.{Circuit, GatingCell, LogicCell, RegisterCell, asked_nets, cell_nets, clock_nets}
 use Rattle.cg_net.specs.NetSets.{is_in}
-use Rattle.cg_netlist.specs.Circuit.{data_inputs, drivers, gater_outputs, given_nets, register_nets, used_nets}
-use Rattle.cg_netlist.specs.Moment.{zip_with}
-use Rattle.cg_netlist.specs.WellFormed.{AreRanks, IsDriven, IsOver, IsWellFormed, RegisterFits}
+use Rattle.cg_netlist.specs.Circuit.{data_inputs, drivers, gater_outputs, given_nets, read_nets, register_nets, shown_nets}
+use Rattle.cg_netlist.specs.Circuit.{used_nets}
+use Rattle.cg_netlist.specs.Moment.{is_controlled, zip_with}
+use Rattle.cg_netlist.specs.WellFormed.{AreControlRanks, AreRanks, IsDriven, IsOver, IsWellFormed, RegisterFits}
 use Rattle.cg_netlist.specs.declared.parts.LogicFunction.TheVariants.{Cell}
 use Rattle.cg_netlist.proofs.Driven.{distinct_range, in_range, is_in-range}
 use Rattle.cg_netlist.proofs.Given.{clock_given, data_given, distinct_cells, distinct_given, driver_within, from_option}
@@ -28,7 +29,7 @@ use Rattle.cg_netlist.proofs.Given.{given_driver, given_no_cell, in_option, kind
 use Rattle.cg_net.proofs.Members.{All-from_members, distinct_apart, distinct_append, distinct_left, distinct_right, is_in_cases}
 use Rattle.cg_net.proofs.Members.{is_in_left, is_in_right}
 use Rattle.cg_netlist.proofs.OrderLemmas.{length-range_with_len}
-use Rattle.cg_netlist.proofs.Values.{element_at}
+use Rattle.cg_netlist.proofs.Values.{element_at, length-zip_with, zip_with_at}
 use Rattle.cg_insert.proofs.GatedMoments.{clock_is, data_is, names_count, register_clock, used_below}
 use Rattle.cg_insert.proofs.GatedParts.{few_names, cell_stands, enable_from, enable_placed, found_passes, gater_at}
 use Rattle.cg_insert.proofs.GatedParts.{gaters_count, gates_are, shown_is}
@@ -52,10 +53,10 @@ module _ (library : List CellData) (test : Option (List ℕ)) (m : MachineData) 
       (record { kind = kind_kept r (clock_under test m r e) r.kind fits.kind; pins = fits.pins; init = fits.init })
       (fits_each rs es (All-tail RegisterFits r rs all))
 
-  taken_same : (rs : List (RegisterCell ℕ ℕ)) (es : List (Option ℕ)) → length es ≡ length rs → flat_map (λ r. r.inputs) (zip_with (reclocked test m) rs es) ≡ flat_map (λ r. r.inputs) rs
+  taken_same : (rs : List (RegisterCell ℕ ℕ)) (es : List (Option ℕ)) → length es ≡ length rs → flat_map (λ r. read_nets r) (zip_with (reclocked test m) rs es) ≡ flat_map (λ r. read_nets r) rs
   taken_same [] es long = refl
   taken_same (r ∷ rs) [] long = absurd (omega arith)
-  taken_same (r ∷ rs) (e ∷ es) long = ap (λ xs. r.inputs ++ xs) (taken_same rs es (omega arith))
+  taken_same (r ∷ rs) (e ∷ es) long = ap (λ xs. read_nets r ++ xs) (taken_same rs es (omega arith))
 
   cells_same : (own : List (LogicCell ℕ)) (gates : List AddedGate) → map (λ cell. cell.output) (own ++ map (placed_gate library) gates) ≡ map (λ cell. cell.output) (own ++ map gate_cell gates)
   cells_same [] [] = refl
@@ -117,9 +118,9 @@ module _ (library : List CellData) (test : Option (List ℕ)) (m : MachineData) 
     used_from x among =
         let ins = flat_map (λ cell. cell.inputs) d.cells in
         let asked = flat_map asked_nets c.gaters in
-        let taken = flat_map (λ r. r.inputs) d.registers in
+        let taken = flat_map (λ r. read_nets r) d.registers in
         let was : used_nets c ≡ ins ++ asked ++ taken ++ d.outputs =
-        ap (λ xs. xs ++ asked ++ flat_map (λ r. r.inputs) c.registers ++ d.outputs) (inputs_same (take m.own_cells d.cells) m.gates ∙ ap (flat_map (λ cell. cell.inputs)) (sym good.gates))
+        ap (λ xs. xs ++ asked ++ flat_map (λ r. read_nets r) c.registers ++ d.outputs) (inputs_same (take m.own_cells d.cells) m.gates ∙ ap (flat_map (λ cell. cell.inputs)) (sym good.gates))
         ∙ ap (λ xs. ins ++ asked ++ xs ++ d.outputs) (taken_same d.registers m.enables good.enables) in
         let olds = flat_map asked_nets d.gaters in
         elim (is_in_cases (ins ++ asked ++ taken) d.outputs x (sym (ap (λ xs. is_in xs x) was) ∙ among)) [
@@ -406,6 +407,36 @@ module _ (library : List CellData) (test : Option (List ℕ)) (m : MachineData) 
           good.well_formed.ranked.rising j k a.0 b.0 a.1 b.1 (ap (λ xs. is_in xs a.0.output) (sym b.2) ∙ (ap (is_in cell.inputs) (sym a.3) ∙ among));
     }
 
+    -- the registers: what forces them, what they show, and their kinds are as before
+    registers_count : length c.registers ≡ length d.registers
+    registers_count = length-zip_with (reclocked test m) d.registers m.enables (sym good.enables)
+
+    register_back : (k : ℕ) (placed : RegisterCell ℕ ℕ) → slice_get c.registers k ≡ Some placed
+        → (r : RegisterCell ℕ ℕ) × (slice_get d.registers k ≡ Some r) × (placed.controls ≡ r.controls) × (shown_nets placed ≡ shown_nets r) × (placed.kind ≡ r.kind)
+    register_back k placed at =
+        let below : k < length d.registers = omega (arith, slice_get_within c.registers k placed at, registers_count) in
+        let r : (r : RegisterCell ℕ ℕ) × (slice_get d.registers k ≡ Some r) = element_at d.registers k below in
+        let e : (e : Option ℕ) × (slice_get m.enables k ≡ Some e) = element_at m.enables k (omega (arith, below, good.enables)) in
+        let same : placed ≡ reclocked test m r.0 e.0 = same_Some placed (reclocked test m r.0 e.0) (sym at ∙ zip_with_at (reclocked test m) d.registers m.enables k r.0 e.0 r.1 e.1) in
+        (r.0, r.1, ap (λ (q : RegisterCell ℕ ℕ). q.controls) same, ap (λ (q : RegisterCell ℕ ℕ). shown_nets q) same, ap (λ (q : RegisterCell ℕ ℕ). q.kind) same)
+
+    forcing : AreControlRanks c good.well_formed.ranks good.well_formed.control_ranks
+    forcing = record {
+      count = good.well_formed.forcing.count ∙ sym registers_count;
+      after_cell = λ j k cell r j_at k_at among.
+          let a = cell_back j cell j_at in
+          let b = register_back k r k_at in
+          good.well_formed.forcing.after_cell j k a.0 b.0 a.1 b.1 (ap (λ xs. is_in xs a.0.output) (sym b.2) ∙ (ap (is_in r.controls) (sym a.3) ∙ among));
+      before_cell = λ j k x r cell j_at k_at is shows among.
+          let a = register_back j r j_at in
+          let b = cell_back k cell k_at in
+          good.well_formed.forcing.before_cell j k x a.0 b.0 a.1 b.1 (ap is_controlled (sym a.4) ∙ is) (ap (λ xs. is_in xs x) (sym a.3) ∙ shows) (ap (λ xs. is_in xs x) (sym b.2) ∙ among);
+      after_register = λ j k x driver r j_at k_at is shows among.
+          let a = register_back j driver j_at in
+          let b = register_back k r k_at in
+          good.well_formed.forcing.after_register j k x a.0 b.0 a.1 b.1 (ap is_controlled (sym a.4) ∙ is) (ap (λ xs. is_in xs x) (sym a.3) ∙ shows) (ap (λ xs. is_in xs x) (sym b.2) ∙ among);
+    }
+
     -- the gating cells
     gating : All (λ gater. IsCell gater.cell × (gater.cell.kind ≡ GaterKind) × (count_by is_test gater.cell.pins ≡ length (option_to_list gater.test))) c.gaters
     gating = go (enables_of m) (new_gater_outputs test m) (λ e among. fits (λ none. both_ways false refl (sym (ap (λ xs. is_in xs e) none) ∙ among)))
@@ -472,6 +503,8 @@ module _ (library : List CellData) (test : Option (List ℕ)) (m : MachineData) 
       driven = driven;
       ranks = good.well_formed.ranks;
       ranked = ranked;
+      control_ranks = good.well_formed.control_ranks;
+      forcing = forcing;
       numbers = enables_of m;
       chained = record { count = sym (gaters_count library test m good can); chained = λ k gater at. inl (gater_clock k gater at) };
       clocked = clocked;

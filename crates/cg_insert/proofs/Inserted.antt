@@ -10,7 +10,7 @@ use Rattle.cg_cell.specs.Cell.{CellData}
 use Rattle.cg_netlist.specs.Circuit.{Circuit, GatingCell, RegisterCell, data_inputs}
 use Rattle.cg_netlist.specs.Wiring.{map_register}
 use Rattle.cg_netlist.specs.History.{AreTicks, IsLawful, LawfulFrom, Moment, Tick, next_bit, outputs_of, rises}
-use Rattle.cg_netlist.specs.Moment.{bit}
+use Rattle.cg_netlist.specs.Moment.{bit, forced_bit, zip_with}
 use Rattle.cg_netlist.specs.WellFormed.{IsWellFormed}
 use Rattle.cg_net.proofs.TableLemmas.{mapped_at}
 use Rattle.cg_netlist.proofs.Values.{element_at, length-zip_with}
@@ -81,7 +81,8 @@ module _ (library : List CellData) (test : Option (List ℕ)) (m : MachineData) 
   rises_from start kp p (k ∷ wave) (q ∷ history) before long ticks there lawful =
       let u = pulled_moment g p in
       let v = pulled_moment g q in
-      let state_long : length v.state ≡ length m.circuit.registers = ap length lawful.0.state ∙ (length-zip_with (next_bit u.nets v.nets) g.registers u.state (registers_count library test m good can ∙ sym before.state_long) ∙ registers_count library test m good can) in
+      let held : length (zip_with (next_bit u.nets v.nets) g.registers u.state) ≡ length g.registers = length-zip_with (next_bit u.nets v.nets) g.registers u.state (registers_count library test m good can ∙ sym before.state_long) in
+      let state_long : length v.state ≡ length m.circuit.registers = ap length lawful.0.state ∙ (length-zip_with (forced_bit v.nets) g.registers (zip_with (next_bit u.nets v.nets) g.registers u.state) (sym held) ∙ registers_count library test m good can) in
       let now : Tells library test m good can k v = tells library test m good can start (Some u) k v lawful.0 ticks.0 state_long before.latches_long in (
         (λ r cell at.
             let old = mapped_at (map_register (place_in (Rattle.cg_netlist.specs.Circuit.net_order g))) (slice_get g.registers r) cell (sym (slice_get-map (map_register (place_in (Rattle.cg_netlist.specs.Circuit.net_order g))) g.registers r) ∙ at) in
@@ -94,8 +95,9 @@ module _ (library : List CellData) (test : Option (List ℕ)) (m : MachineData) 
   rises_are start [] (q ∷ history) long ticks there lawful = absurd there
   rises_are start (k ∷ wave) [] long ticks there lawful = absurd there
   rises_are start (k ∷ wave) (q ∷ history) long ticks there lawful =
-      let same : q.state ≡ start = lawful.0.state in
-      rises_from start k q wave history (tells library test m good can start None k (pulled_moment g q) lawful.0 ticks.0 (ap length same ∙ long) (length-replicate (length g.gaters) false ∙ gaters_count library test m good can)) there.0.nets.long ticks.1 there.1 lawful.1
+      let v = pulled_moment g q in
+      let count : length v.state ≡ length m.circuit.registers = ap length lawful.0.state ∙ (length-zip_with (forced_bit v.nets) g.registers start (registers_count library test m good can ∙ sym long) ∙ registers_count library test m good can) in
+      rises_from start k q wave history (tells library test m good can start None k v lawful.0 ticks.0 count (length-replicate (length g.gaters) false ∙ gaters_count library test m good can)) there.0.nets.long ticks.1 there.1 lawful.1
 
   pub run_of : (start : List Bool) (wave : List Tick) (history : List Moment) → length start ≡ length m.circuit.registers → AreTicks (ordered g) wave → IsLawful (ordered g) start wave history → IsRunOf library test m start wave history
   run_of start wave history long ticks lawful =
@@ -124,12 +126,12 @@ module _ (m : MachineData) where
 
   pub plain_states : (before : Option Tick) (s : List Bool) (wave : List Tick) → test_states_from m (option_map (λ k. (k, false)) before) s (map (λ k. (k, false)) wave) ≡ states_from m before s wave
   plain_states before s [] = refl
-  plain_states None s (k ∷ wave) = ap (λ l. s ∷ l) (plain_states (Some k) s wave)
+  plain_states None s (k ∷ wave) = ap (λ l. state_now m None s k ∷ l) (plain_states (Some k) (state_now m None s k) wave)
   plain_states (Some p) s (k ∷ wave) = ap (λ l. state_now m (Some p) s k ∷ l) (plain_states (Some k) (state_now m (Some p) s k) wave)
 
   pub plain_shown : (before : Option Tick) (s : List Bool) (wave : List Tick) → test_shown_from m (option_map (λ k. (k, false)) before) s (map (λ k. (k, false)) wave) ≡ shown_from m before s wave
   plain_shown before s [] = refl
-  plain_shown None s (k ∷ wave) = ap (λ l. Rattle.cg_machine.specs.Machine.outputs_at m s k.inputs ∷ l) (plain_shown (Some k) s wave)
+  plain_shown None s (k ∷ wave) = ap (λ l. Rattle.cg_machine.specs.Machine.outputs_at m (state_now m None s k) k.inputs ∷ l) (plain_shown (Some k) (state_now m None s k) wave)
   plain_shown (Some p) s (k ∷ wave) = ap (λ l. Rattle.cg_machine.specs.Machine.outputs_at m (state_now m (Some p) s k) k.inputs ∷ l) (plain_shown (Some k) (state_now m (Some p) s k) wave)
 
   -- a tick with as many inputs as the machine has

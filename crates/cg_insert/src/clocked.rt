@@ -213,6 +213,7 @@ fn tell_at(
     let clock = clock_or_first(machine.netlist());
     let register = RegView {
         inputs: &[net],
+        controls: &[],
         outputs: &[(output, false)],
         pins: &[0],
         clock,

@@ -4,15 +4,16 @@ use Rattle.std.proofs.Common.{Option, None, Some, refl, sym, ap, subst, count_by
 use Rattle.std.specs.List.{AllByRecursion}
 use Rattle.std.specs.Option.{option_map}
 use Rattle.std.proofs.lemmas.Bool.Decides.{nat_tests}
-use Rattle.cg_cell.specs.Cell.{IsCell}
+use Rattle.cg_cell.specs.Cell.{IsCell, no_control}
 use Rattle.cg_cell.specs.Name.{has_no_equals, is_name}
-use Rattle.cg_cell.specs.Pins.{PinData, is_clock, is_enable, is_output, is_test}
+use Rattle.cg_cell.specs.Pins.{PinData, is_clock, is_control, is_enable, is_output, is_test}
 use Rattle.cg_cell.specs.declared.cell.CellKind.TheVariants as kinds
 use Rattle.cg_cell.specs.declared.cell.Role.{Role}
 use Rattle.cg_cell.specs.declared.cell.Role.TheVariants as roles
 use Rattle.cg_liberty.specs.Kinds.{are_gater_pins, gater_pins, gater_role, input_role, with_role}
 use Rattle.cg_liberty.specs.Port.{ArePorts}
 use Rattle.cg_liberty.specs.declared.port.Port.{Port}
+use Rattle.cg_liberty.proofs.Uncontrolled.{AreUncontrolled, none_controls, none_shared}
 
 -- pins behind those that were found before
 abbrev pub behind : List PinData → Option (List PinData) → Option (List PinData)
@@ -30,21 +31,24 @@ gater_step tested front port ports role is = rw (← is) (one_more front port ro
 abbrev IsGaterRole : Role → Type 0
 IsGaterRole role = (name : List ℕ) → IsTrue (is_clock (record { name = name; role = role }) || is_enable (record { name = name; role = role }) || is_output (record { name = name; role = role }) || is_test (record { name = name; role = role }))
 
+abbrev IsFree : Role → Type 0
+IsFree role = (name : List ℕ) → is_control (record { name = name; role = role }) ≡ false
+
 abbrev IfRole : Option Role → Type 0
 IfRole None = Unit {0}
-IfRole (Some role) = IsGaterRole role
+IfRole (Some role) = IsGaterRole role × IsFree role
 
 input_fits : (clock enable test : Bool) → IfRole (input_role clock enable test)
 input_fits true true test = tt
 input_fits true false true = tt
-input_fits true false false = λ name. refl
+input_fits true false false = (λ name. refl, λ name. refl)
 input_fits false true true = tt
-input_fits false true false = λ name. refl
-input_fits false false true = λ name. refl
+input_fits false true false = (λ name. refl, λ name. refl)
+input_fits false false true = (λ name. refl, λ name. refl)
 input_fits false false false = tt
 
 role_fits : (output out clock enable test : Bool) → IfRole (cond output (cond out (Some roles.Output) None) (input_role clock enable test))
-role_fits true true clock enable test = λ name. refl
+role_fits true true clock enable test = (λ name. refl, λ name. refl)
 role_fits true false clock enable test = tt
 role_fits false out clock enable test = input_fits clock enable test
 
@@ -52,6 +56,7 @@ record Found (ports : List Port) (pins : List PinData) : Type 0 where
   names : map (λ pin. pin.name) pins ≡ map (λ port. port.name) ports
   long : length pins ≡ length ports
   only : AllByRecursion (λ pin. IsTrue (is_clock pin || is_enable pin || is_output pin || is_test pin)) pins
+  free : AreUncontrolled pins
   named : AllByRecursion (λ port. IsTrue (is_name port.name)) ports → AllByRecursion (λ pin. IsTrue (is_name pin.name)) pins
   unsplit : AllByRecursion (λ port. IsTrue (has_no_equals port.name)) ports → AllByRecursion (λ pin. IsTrue (has_no_equals pin.name)) pins
 
@@ -63,7 +68,8 @@ found_more : (port : Port) (ports : List Port) (role : Option Role) (later : Opt
 found_more port ports (Some role) (Some pins) fits found = record {
   names = ap (λ (names : List (List ℕ)). port.name ∷ names) found.names;
   long = ap suc found.long;
-  only = (fits port.name, found.only);
+  only = (fits.0 port.name, found.only);
+  free = (fits.1 port.name, found.free);
   named = λ h. (h.0, found.named h.1);
   unsplit = λ h. (h.0, found.unsplit h.1);
 }
@@ -71,7 +77,7 @@ found_more port ports (Some role) None fits found = tt
 found_more port ports None later fits found = tt
 
 found_all : (tested : Bool) (ports : List Port) → IfFound ports (gater_pins tested ports)
-found_all tested [] = record { names = refl; long = refl; only = tt; named = λ h. h; unsplit = λ h. h }
+found_all tested [] = record { names = refl; long = refl; only = tt; free = tt; named = λ h. h; unsplit = λ h. h }
 found_all tested (port ∷ ports) = found_more port ports (gater_role tested port) (gater_pins tested ports) (role_fits port.marks.is_output port.marks.is_out port.marks.is_clock port.marks.is_enable (tested && port.marks.is_test)) (found_all tested ports)
 
 abbrev pub Ones : ℕ → ℕ → ℕ → ℕ → Type 0
@@ -82,7 +88,7 @@ ones true a b c d h = grind (arith, nat_tests)
 ones false a b c d h = grind (arith, nat_tests)
 
 -- one clock, one enable, one output and at most one test input make a gating cell
-pub gater_is_cell : (tested : Bool) (name : List ℕ) (ports : List Port) (pins : List PinData) → IsTrue (is_name name) → ArePorts ports → Some pins ≡ gater_pins tested ports → are_gater_pins tested pins ≡ true → IsCell (record { name = name; kind = kinds.Gater; pins = pins; function = None })
+pub gater_is_cell : (tested : Bool) (name : List ℕ) (ports : List Port) (pins : List PinData) → IsTrue (is_name name) → ArePorts ports → Some pins ≡ gater_pins tested ports → are_gater_pins tested pins ≡ true → IsCell (record { name = name; kind = kinds.Gater; pins = pins; function = None; control = no_control })
 gater_is_cell tested name ports pins is_named are is fits =
     let found : Found ports pins = subst (IfFound ports) (sym is) (found_all tested ports) in
     let counts = ones tested (count_by is_clock pins) (count_by is_enable pins) (count_by is_output pins) (count_by is_test pins) fits in
@@ -94,4 +100,7 @@ gater_is_cell tested name ports pins is_named are is fits =
       unsplit = found.unsplit are.unsplit;
       roles = record { clock = counts.0; enable = counts.1; output = counts.2; test = counts.3; only = found.only };
       computes = tt;
+      shared = none_shared (record { name = name; kind = kinds.Gater; pins = pins; function = None; control = no_control }) found.free;
+      controls = none_controls pins found.free;
+      forces = refl;
     }

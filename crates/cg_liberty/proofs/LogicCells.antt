@@ -2,9 +2,9 @@
 use Rattle.std.proofs.Common.{◌≡◌, ◌+◌, ℕ, suc, Bool, true, false, cond, ◌||◌, IsTrue, List, [], ◌∷◌, ◌++◌, length, map, Option}
 use Rattle.std.proofs.Common.{Some, refl, ap, ◌∙◌, subst, count_by, arith}
 use Rattle.std.specs.List.{AllByRecursion}
-use Rattle.cg_cell.specs.Cell.{IsCell}
+use Rattle.cg_cell.specs.Cell.{IsCell, no_control}
 use Rattle.cg_cell.specs.Name.{has_no_equals, is_name}
-use Rattle.cg_cell.specs.Pins.{PinData, is_data, is_output}
+use Rattle.cg_cell.specs.Pins.{PinData, is_control, is_data, is_output}
 use Rattle.cg_cell.specs.Term.{Term, is_within}
 use Rattle.cg_cell.specs.declared.cell.CellKind.TheVariants as kinds
 use Rattle.cg_cell.specs.declared.cell.Role.TheVariants as roles
@@ -12,6 +12,7 @@ use Rattle.cg_liberty.specs.Kinds.{input_names, logic_pins, output_texts}
 use Rattle.cg_liberty.specs.Port.{ArePorts}
 use Rattle.cg_liberty.specs.declared.port.Port.{Port}
 use Rattle.cg_liberty.proofs.Counts.{count_by-cons}
+use Rattle.cg_liberty.proofs.Uncontrolled.{AreUncontrolled, none_controls, none_shared}
 
 pub logic_names : (ports : List Port) → map (λ pin. pin.name) (logic_pins ports) ≡ map (λ port. port.name) ports
 logic_names [] = refl
@@ -37,6 +38,14 @@ logic_only : (ports : List Port) → AllByRecursion (λ pin. IsTrue (is_data pin
 logic_only [] = tt
 logic_only (port ∷ ports) = (own_only port.name port.marks.is_output, logic_only ports)
 
+own_free : (name : List ℕ) (output : Bool) → is_control (record { name = name; role = cond output roles.Output roles.Data }) ≡ false
+own_free name true = refl
+own_free name false = refl
+
+logic_free : (ports : List Port) → AreUncontrolled (logic_pins ports)
+logic_free [] = tt
+logic_free (port ∷ ports) = (own_free port.name port.marks.is_output, logic_free ports)
+
 count_outputs : (name : List ℕ) (function : Option (List ℕ)) (pins : List PinData) (texts : List (Option (List ℕ))) (output : Bool) → count_by is_output pins ≡ length texts → count_by is_output (record { name = name; role = cond output roles.Output roles.Data } ∷ pins) ≡ length (cond output (function ∷ []) [] ++ texts)
 count_outputs name function pins texts true h = count_by-cons is_output (record { name = name; role = roles.Output }) pins ∙ let e : 1 + count_by is_output pins ≡ suc (length texts) = omega arith in e
 count_outputs name function pins texts false h = count_by-cons is_output (record { name = name; role = roles.Data }) pins ∙ h
@@ -54,7 +63,7 @@ logic_inputs [] = refl
 logic_inputs (port ∷ ports) = count_inputs port.name (logic_pins ports) (input_names ports) port.marks.is_output (logic_inputs ports)
 
 -- one output with a function of the inputs makes a logic cell
-pub logic_is_cell : (name : List ℕ) (ports : List Port) (function : Term) → IsTrue (is_name name) → ArePorts ports → length (output_texts ports) ≡ 1 → IsTrue (is_within (length (input_names ports)) function) → IsCell (record { name = name; kind = kinds.Logic; pins = logic_pins ports; function = Some function })
+pub logic_is_cell : (name : List ℕ) (ports : List Port) (function : Term) → IsTrue (is_name name) → ArePorts ports → length (output_texts ports) ≡ 1 → IsTrue (is_within (length (input_names ports)) function) → IsCell (record { name = name; kind = kinds.Logic; pins = logic_pins ports; function = Some function; control = no_control })
 logic_is_cell name ports function is_named are one within = record {
   named = is_named;
   pins_named = logic_named ports are.named;
@@ -63,4 +72,7 @@ logic_is_cell name ports function is_named are one within = record {
   unsplit = logic_unsplit ports are.unsplit;
   roles = record { output = logic_outputs ports ∙ one; only = logic_only ports };
   computes = let n : length (input_names ports) ≡ count_by is_data (logic_pins ports) + 0 = omega (arith, logic_inputs ports) in subst (λ (k : ℕ). IsTrue (is_within k function)) n within;
+  shared = none_shared (record { name = name; kind = kinds.Logic; pins = logic_pins ports; function = Some function; control = no_control }) (logic_free ports);
+  controls = none_controls (logic_pins ports) (logic_free ports);
+  forces = refl;
 }

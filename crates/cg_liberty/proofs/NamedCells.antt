@@ -1,18 +1,19 @@
 -- The cell that a group describes has the group's name.
-use Rattle.std.proofs.Common.{◌≡◌, ℕ, Bool, true, false, cond, List, [], ◌∷◌, ◌++◌, Option, None, Some, Result, Ok, Err, refl}
+use Rattle.std.proofs.Common.{◌≡◌, ℕ, Bool, true, false, cond, List, [], ◌∷◌, Option, None, Some, Result, Ok, Err, refl}
 use Rattle.std.proofs.Common.{subst}
-use Rattle.cg_cell.specs.Cell.{CellData}
+use Rattle.cg_cell.specs.Cell.{CellData, ControlData}
 use Rattle.cg_cell.specs.Term.{Term}
 use Rattle.cg_cell.specs.Pins.{PinData}
-use Rattle.cg_liberty_group.specs.Group.{is_there, text_of}
+use Rattle.cg_liberty_group.specs.Group.{is_there}
 use Rattle.cg_liberty_group.specs.declared.group.CellGroup.{CellGroup}
+use Rattle.cg_liberty_group.specs.declared.group.FlopGroup.{FlopGroup}
 use Rattle.cg_liberty_group.specs.declared.group.Flops.{Flops}
 use Rattle.cg_liberty_group.specs.declared.group.Flops.TheVariants.{Absent, One, Several}
-use Rattle.cg_liberty.specs.Kinds.{all_known, cell_by_flops, cell_of, cell_with_ports, flop_clocked, flop_of, gater_pins}
-use Rattle.cg_liberty.specs.Kinds.{gater_with, gating_cell, input_names, inverses_read, is_plain_flop, logic_of, output_texts}
-use Rattle.cg_liberty.specs.Kinds.{state_names, unusable}
+use Rattle.cg_liberty.specs.Kinds.{FlopTerms, cell_by_flops, cell_of, cell_with_ports, flop_clocked, flop_controlled, flop_of}
+use Rattle.cg_liberty.specs.Kinds.{flop_of_terms, flop_read, gater_pins, gater_with, gating_cell, input_names, is_plain_flop}
+use Rattle.cg_liberty.specs.Kinds.{logic_of, output_texts, unusable}
 use Rattle.cg_liberty.specs.Port.{ports_of}
-use Rattle.cg_liberty.specs.Reading.{reading, readings, then_read}
+use Rattle.cg_liberty.specs.Reading.{readings, then_read}
 use Rattle.cg_liberty.specs.declared.fault.CellFault.{CellFault}
 use Rattle.cg_liberty.specs.declared.port.Port.{Port}
 
@@ -42,38 +43,42 @@ logic_name name ports (None ∷ later) = refl
 logic_name name ports (Some function ∷ []) = refl
 logic_name name ports (Some function ∷ another ∷ later) = refl
 
-clocked_name : (name : List ℕ) (ports : List Port) (next : Term) (clock : Option ℕ) (inverses : List Bool) → (flop_clocked name ports next clock inverses).name ≡ name
-clocked_name name ports next None inverses = refl
-clocked_name name ports next (Some clock) inverses = either_cell name _ _ _ refl refl
+controlled_name : (name : List ℕ) (ports : List Port) (next : Term) (clock : ℕ) (control : Option ControlData) (inverses : List Bool) → (flop_controlled name ports next clock control inverses).name ≡ name
+controlled_name name ports next clock None inverses = refl
+controlled_name name ports next clock (Some control) inverses = either_cell name _ _ _ refl refl
 
-flop_name : (name : List ℕ) (ports : List Port) (plain : Bool) (next clocked : Option Term) (inverses : Option (List Bool)) → (flop_of name ports plain next clocked inverses).name ≡ name
-flop_name name ports plain (Some next) (Some clocked) (Some inverses) = either_cell name plain _ _ (clocked_name name ports next _ inverses) refl
-flop_name name ports plain None clocked inverses = refl
-flop_name name ports plain (Some next) None inverses = refl
-flop_name name ports plain (Some next) (Some clocked) None = refl
+clocked_name : (name : List ℕ) (ports : List Port) (flop : FlopGroup) (inverse_named : Bool) (next : Term) (clock : Option ℕ) (clear preset : Option Term) (inverses : List Bool) → (flop_clocked name ports flop inverse_named next clock clear preset inverses).name ≡ name
+clocked_name name ports flop inverse_named next None clear preset inverses = refl
+clocked_name name ports flop inverse_named next (Some clock) clear preset inverses = controlled_name name ports next clock _ inverses
 
-by_flops_name : (cell : CellGroup) (ports : List Port) (flops : Flops) → HasName cell.name (cell_by_flops cell ports flops)
-by_flops_name cell ports Absent =
-    after_reading cell.name (readings (input_names ports) (output_texts ports)) (λ functions. Ok (logic_of cell.name ports functions)) (λ functions. logic_name cell.name ports functions)
-by_flops_name cell ports (One flop) =
-    let plain : Bool = is_plain_flop (input_names ports) flop in
-    let made : Option Term → Option Term → List (Option Bool) → Result CellData CellFault = λ next clocked outputs. Ok (flop_of cell.name ports plain next clocked (all_known outputs)) in
-    let reads_outputs : Option Term → Option Term → Result CellData CellFault = λ next clocked. then_read (inverses_read (state_names flop.names) (output_texts ports)) (made next clocked) in
-    let reads_clock : Option Term → Result CellData CellFault = λ next. then_read (reading (input_names ports) (text_of flop.clocked_on)) (reads_outputs next) in
-    after_reading cell.name (reading (input_names ports ++ state_names flop.names) (text_of flop.next_state)) reads_clock (λ next.
-    after_reading cell.name (reading (input_names ports) (text_of flop.clocked_on)) (reads_outputs next) (λ clocked.
-    after_reading cell.name (inverses_read (state_names flop.names) (output_texts ports)) (made next clocked) (λ outputs.
-    flop_name cell.name ports plain next clocked (all_known outputs))))
-by_flops_name cell ports Several = refl
+terms_name : (name : List ℕ) (ports : List Port) (flop : FlopGroup) (outputs : List (Option Term)) (next clocked : Option Term) (clear preset : Option (Option Term)) (inverses : Option (List Bool))
+    → (flop_of_terms name ports flop outputs next clocked clear preset inverses).name ≡ name
+terms_name name ports flop outputs (Some next) (Some clocked) (Some clear) (Some preset) (Some inverses) = clocked_name name ports flop _ next _ clear preset inverses
+terms_name name ports flop outputs (Some next) (Some clocked) (Some clear) (Some preset) None = refl
+terms_name name ports flop outputs (Some next) (Some clocked) (Some clear) None inverses = refl
+terms_name name ports flop outputs (Some next) (Some clocked) None preset inverses = refl
+terms_name name ports flop outputs (Some next) None clear preset inverses = refl
+terms_name name ports flop outputs None clocked clear preset inverses = refl
 
-by_tests_name : (cell : CellGroup) (ports : List Port) (gating bank : Bool) → HasName cell.name (cond gating (Ok (gating_cell cell ports)) (cond bank (Ok (unusable cell.name)) (cell_by_flops cell ports cell.flops)))
-by_tests_name cell ports true bank = gating_name cell ports
-by_tests_name cell ports false true = refl
-by_tests_name cell ports false false = by_flops_name cell ports cell.flops
+module _ (controls : Bool) where
+  flop_name : (name : List ℕ) (ports : List Port) (flop : FlopGroup) (read : FlopTerms) → (flop_of controls name ports flop read).name ≡ name
+  flop_name name ports flop read = either_cell name (is_plain_flop controls (input_names ports) flop) _ _ (terms_name name ports flop read.outputs read.next read.clocked _ _ _) refl
 
-with_ports_name : (cell : CellGroup) (ports : Option (List Port)) → HasName cell.name (cell_with_ports cell ports)
-with_ports_name cell None = refl
-with_ports_name cell (Some ports) = by_tests_name cell ports (is_there cell.gating) cell.has_bank
+  by_flops_name : (cell : CellGroup) (ports : List Port) (flops : Flops) → HasName cell.name (cell_by_flops controls cell ports flops)
+  by_flops_name cell ports Absent =
+      after_reading cell.name (readings (input_names ports) (output_texts ports)) (λ functions. Ok (logic_of cell.name ports functions)) (λ functions. logic_name cell.name ports functions)
+  by_flops_name cell ports (One flop) =
+      after_reading cell.name (flop_read controls (input_names ports) (output_texts ports) flop) (λ read. Ok (flop_of controls cell.name ports flop read)) (λ read. flop_name cell.name ports flop read)
+  by_flops_name cell ports Several = refl
 
-pub cell_name : (group : CellGroup) (cell : CellData) → cell_of group ≡ Ok cell → cell.name ≡ group.name
-cell_name group cell is = subst (HasName group.name) is (with_ports_name group (ports_of group))
+  by_tests_name : (cell : CellGroup) (ports : List Port) (gating bank : Bool) → HasName cell.name (cond gating (Ok (gating_cell cell ports)) (cond bank (Ok (unusable cell.name)) (cell_by_flops controls cell ports cell.flops)))
+  by_tests_name cell ports true bank = gating_name cell ports
+  by_tests_name cell ports false true = refl
+  by_tests_name cell ports false false = by_flops_name cell ports cell.flops
+
+  with_ports_name : (cell : CellGroup) (ports : Option (List Port)) → HasName cell.name (cell_with_ports controls cell ports)
+  with_ports_name cell None = refl
+  with_ports_name cell (Some ports) = by_tests_name cell ports (is_there cell.gating) cell.has_bank
+
+  pub cell_name : (group : CellGroup) (cell : CellData) → cell_of controls group ≡ Ok cell → cell.name ≡ group.name
+  cell_name group cell is = subst (HasName group.name) is (with_ports_name group (ports_of group))

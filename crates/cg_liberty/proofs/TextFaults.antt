@@ -222,10 +222,11 @@ then_for : (read : Result (List CellData) LibertyFault) (later : List CellData �
 then_for (Ok library) later h rest = rest library
 then_for (Err fault) later h rest = h
 
-all_for : (groups : List CellGroup) (library : List CellData) → IsForCells (all_added library groups)
-all_for [] library = tt
-all_for (group ∷ groups) library =
-    then_for (added library group) (λ next. all_added next groups) (added_for library group.name (cell_of group) (not (is_name group.name)) (nat_le MOST_LIBRARY_CELLS (length library)) (is_some (find_cell group.name library))) (λ next. all_for groups next)
+module _ (controls : Bool) where
+  all_for : (groups : List CellGroup) (library : List CellData) → IsForCells (all_added controls library groups)
+  all_for [] library = tt
+  all_for (group ∷ groups) library =
+      then_for (added controls library group) (λ next. all_added controls next groups) (added_for library group.name (cell_of controls group) (not (is_name group.name)) (nat_le MOST_LIBRARY_CELLS (length library)) (is_some (find_cell group.name library))) (λ next. all_for groups next)
 
 from_text : (text : List ℕ) (found : TextFault) (fault : LibertyFault) → FailsBy (length text) (tokens text) found → OrNoMemory {A = Library} {B = List CellData} faults.NoMemory (λ (l : Library). l) (Err fault) (Err (text_refusal found)) → IsFirstLibertyFault text fault
 from_text text found fault fails (inl none) = subst (IsFirstLibertyFault text) (sym none) tt
@@ -235,19 +236,20 @@ from_text text texts.Nesting (faults.Limit which) fails (inr h) = inl fails
 from_text text found faults.NoMemory fails (inr h) = tt
 from_text text found fault fails (inr h) = absurd (cc)
 
-from_cells : (text : List ℕ) (read : List Statement) (fault : LibertyFault) → SpellsLibrary (tokens text) read → OrNoMemory {A = Library} {B = List CellData} faults.NoMemory (λ (l : Library). l) (Err fault) (all_added [] (cell_groups read)) → IsFirstLibertyFault text fault
-from_cells text read fault spelled (inl none) = subst (IsFirstLibertyFault text) (sym none) tt
-from_cells text read (faults.BadToken at) spelled (inr h) = absurd (subst IsForCells h (all_for (cell_groups read) []))
-from_cells text read (faults.BadGroup at) spelled (inr h) = absurd (subst IsForCells h (all_for (cell_groups read) []))
-from_cells text read (faults.BadExpr name at) spelled (inr h) = (read, spelled)
-from_cells text read (faults.TwoCells name) spelled (inr h) = (read, spelled)
-from_cells text read (faults.Limit which) spelled (inr h) = inr (read, spelled)
-from_cells text read faults.NoMemory spelled (inr h) = tt
+module _ (controls : Bool) where
+  from_cells : (text : List ℕ) (read : List Statement) (fault : LibertyFault) → SpellsLibrary (tokens text) read → OrNoMemory {A = Library} {B = List CellData} faults.NoMemory (λ (l : Library). l) (Err fault) (all_added controls [] (cell_groups read)) → IsFirstLibertyFault text fault
+  from_cells text read fault spelled (inl none) = subst (IsFirstLibertyFault text) (sym none) tt
+  from_cells text read (faults.BadToken at) spelled (inr h) = absurd (subst IsForCells h (all_for controls (cell_groups read) []))
+  from_cells text read (faults.BadGroup at) spelled (inr h) = absurd (subst IsForCells h (all_for controls (cell_groups read) []))
+  from_cells text read (faults.BadExpr name at) spelled (inr h) = (read, spelled)
+  from_cells text read (faults.TwoCells name) spelled (inr h) = (read, spelled)
+  from_cells text read (faults.Limit which) spelled (inr h) = inr (read, spelled)
+  from_cells text read faults.NoMemory spelled (inr h) = tt
 
-refused : (text : List ℕ) (read : List Statement) (found : Option TextFault) (fault : LibertyFault) → statements (length text) 0 Start (tokens text) ≡ (read, found) → OrNoMemory {A = Library} {B = List CellData} faults.NoMemory (λ (l : Library). l) (Err fault) (by_fault found read) → IsFirstLibertyFault text fault
-refused text read (Some found) fault is h = from_text text found fault (first_fault (length text) (tokens text) found (ap (λ (r : Read). r.1) is)) h
-refused text read None fault is h = from_cells text read fault (library_spelled (length text) (tokens text) read is) h
+  refused : (text : List ℕ) (read : List Statement) (found : Option TextFault) (fault : LibertyFault) → statements (length text) 0 Start (tokens text) ≡ (read, found) → OrNoMemory {A = Library} {B = List CellData} faults.NoMemory (λ (l : Library). l) (Err fault) (by_fault controls found read) → IsFirstLibertyFault text fault
+  refused text read (Some found) fault is h = from_text text found fault (first_fault (length text) (tokens text) found (ap (λ (r : Read). r.1) is)) h
+  refused text read None fault is h = from_cells text read fault (library_spelled (length text) (tokens text) read is) h
 
-pub fault_found : (text : List ℕ) (answer : Result Library LibertyFault) → OrNoMemory faults.NoMemory (λ (l : Library). l) answer (library_of text) → IfErr answer (IsFirstLibertyFault text)
-fault_found text (Ok library) h = tt
-fault_found text (Err fault) h = let read = statements (length text) 0 Start (tokens text) in refused text read.0 read.1 fault refl h
+  pub fault_found : (text : List ℕ) (answer : Result Library LibertyFault) → OrNoMemory faults.NoMemory (λ (l : Library). l) answer (library_of controls text) → IfErr answer (IsFirstLibertyFault text)
+  fault_found text (Ok library) h = tt
+  fault_found text (Err fault) h = let read = statements (length text) 0 Start (tokens text) in refused text read.0 read.1 fault refl h

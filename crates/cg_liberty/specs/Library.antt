@@ -1,5 +1,5 @@
 -- The library that a text stands for, or its first fault.
-use Rattle.std.specs.Prelude.{ℕ, zero, suc, nat_le, cond, not, List, [], ◌∷◌, ◌++◌, length, codes, Option, None, Some, Result, Ok}
+use Rattle.std.specs.Prelude.{ℕ, Bool, zero, suc, nat_le, cond, not, List, [], ◌∷◌, ◌++◌, length, codes, Option, None, Some, Result, Ok}
 use Rattle.std.specs.Prelude.{Err}
 use Rattle.std.specs.Option.{is_some}
 use Rattle.std.specs.Str.{bytes_eq}
@@ -41,12 +41,12 @@ with_cell library name (Err fault) = Err (cell_refusal name fault)
 
 -- the library with the cell of one more group: one whose argument is no name is skipped, there are at most 4,096, no two have one
 -- name, and the expressions are looked at last
-abbrev pub added : List CellData → CellGroup → Result (List CellData) LibertyFault
-added library group =
+abbrev pub added : Bool → List CellData → CellGroup → Result (List CellData) LibertyFault
+added controls library group =
     cond (not (is_name group.name)) (Ok library)
     (cond (nat_le MOST_LIBRARY_CELLS (length library)) (Err (faults.Limit limits.LibraryCells))
     (cond (is_some (find_cell group.name library)) (Err (faults.TwoCells group.name))
-    (with_cell library group.name (cell_of group))))
+    (with_cell library group.name (cell_of controls group))))
 
 -- what is made of a library that was not refused
 abbrev pub then_add : Result (List CellData) LibertyFault → (List CellData → Result (List CellData) LibertyFault) →
@@ -55,9 +55,9 @@ then_add (Ok library) later = later library
 then_add (Err fault) later = Err fault
 
 -- a library to which the cells of the groups are added in order, up to the first refusal
-abbrev pub all_added : List CellData → List CellGroup → Result (List CellData) LibertyFault
-all_added library [] = Ok library
-all_added library (group ∷ groups) = then_add (added library group) (λ next. all_added next groups)
+abbrev pub all_added : Bool → List CellData → List CellGroup → Result (List CellData) LibertyFault
+all_added controls library [] = Ok library
+all_added controls library (group ∷ groups) = then_add (added controls library group) (λ next. all_added controls next groups)
 
 -- the first of the arguments, or nothing
 abbrev pub first_text : List (List ℕ) → List ℕ
@@ -82,10 +82,10 @@ cell_groups (Close ∷ after) = []
 cell_groups (Attribute word text ∷ after) = []
 
 -- faults of the text come before those of its cells
-abbrev pub by_fault : Option TextFault → List Statement → Result (List CellData) LibertyFault
-by_fault (Some fault) read = Err (text_refusal fault)
-by_fault None read = all_added [] (cell_groups read)
+abbrev pub by_fault : Bool → Option TextFault → List Statement → Result (List CellData) LibertyFault
+by_fault controls (Some fault) read = Err (text_refusal fault)
+by_fault controls None read = all_added controls [] (cell_groups read)
 
--- the library that a text stands for, or its first fault
-abbrev pub library_of : List ℕ → Result (List CellData) LibertyFault
-library_of text = let read = statements (length text) 0 Start (tokens text) in by_fault read.1 read.0
+-- the library that a text stands for, or its first fault; clear and preset of registers are read or not
+abbrev pub library_of : Bool → List ℕ → Result (List CellData) LibertyFault
+library_of controls text = let read = statements (length text) 0 Start (tokens text) in by_fault controls read.1 read.0

@@ -9,9 +9,8 @@ ghost use Rattle.std.specs.Str.{bytes_eq};
 ghost use Rattle.cg_limit.specs.Answers.{OrNoMemory};
 ghost use Rattle.cg_cell.specs.Name.{is_name};
 ghost use Rattle.cg_liberty_expression.specs.Reading.{read_text};
-ghost use Rattle.cg_liberty_group.specs.Group.{text_of};
 ghost use Rattle.cg_liberty.specs.declared.fault.CellFault.TheVariants.{NoMemory};
-ghost use Rattle.cg_liberty.specs.inner.Checked.{faults_of, flop_checked, outputs_checked};
+ghost use Rattle.cg_liberty.specs.inner.Checked.{controls_checked, faults_of, flop_checked, outputs_checked};
 ghost use Rattle.cg_liberty.specs.Kinds.{flop_cell, input_names, is_plain_flop, output_texts, state_names};
 ghost use Rattle.cg_liberty.specs.Reading.{reading, taken};
 
@@ -102,33 +101,51 @@ fn check_outputs(alloc: Global, ports: &[Port<'_>], names: &Known<'_, '_>) -> Re
     Ok(())
 }
 
-/// Answers the fault of the expression of the clock, over the names of the inputs.
+/// Answers the fault of an expression over the names of the inputs alone, where it has one.
 #[tactic(auto, using(crate::proofs::FaultsAlone::no_more))]
-fn check_clock(alloc: Global, flop: &FlopGroup<'_>, inputs: &[Name]) -> Result<(), CellFault>
-    ensures { OrNoMemory NoMemory (λ _. tt) result (faults_of (reading inputs.now (text_of flop.now.clocked_on))) }
+fn check_over_inputs(alloc: Global, text: &Option<Text<'_>>, inputs: &[Name]) -> Result<(), CellFault>
+    ensures { OrNoMemory NoMemory (λ _. tt) result (faults_of (reading inputs.now text.now)) }
 {
     let none = IndexedArguments::new(alloc, Arguments::new(Tokens::new(&[])))?;
     let known = Known {
         inputs,
         states: &none,
     };
-    check_stated(alloc, &flop.clocked_on.text(), &known)
+    check_stated(alloc, text, &known)
+}
+
+/// Answers the first fault of the expressions of clear and preset, where they are read.
+fn check_controls(
+    alloc: Global,
+    controls: bool,
+    flop: &FlopGroup<'_>,
+    inputs: &[Name],
+) -> Result<(), CellFault>
+    ensures { OrNoMemory NoMemory (λ _. tt) result (controls_checked controls inputs.now flop.now) }
+{
+    if !controls {
+        return Ok(());
+    }
+    check_over_inputs(alloc, &flop.clear.text(), inputs)?;
+    check_over_inputs(alloc, &flop.preset.text(), inputs)
 }
 
 /// Answers the first fault of the expressions of a register, over the names of the inputs and the states.
 fn check_expressions(
     alloc: Global,
+    controls: bool,
     ports: &[Port<'_>],
     flop: &FlopGroup<'_>,
     inputs: &[Name],
     states: &IndexedArguments<'_>,
 ) -> Result<(), CellFault>
     requires { states.now ≡ flop.now.names }
-    ensures { OrNoMemory NoMemory (λ _. tt) result (flop_checked inputs.now (output_texts ports.now) flop.now) }
+    ensures { OrNoMemory NoMemory (λ _. tt) result (flop_checked controls inputs.now (output_texts ports.now) flop.now) }
 {
     let of_next = Known { inputs, states };
     check_stated(alloc, &flop.next_state.text(), &of_next)?;
-    check_clock(alloc, flop, inputs)?;
+    check_over_inputs(alloc, &flop.clocked_on.text(), inputs)?;
+    check_controls(alloc, controls, flop, inputs)?;
     let of_outputs = Known {
         inputs: &[],
         states,
@@ -137,26 +154,32 @@ fn check_expressions(
 }
 
 /// Answers the first fault of the expressions of a register.
-fn check_register(alloc: Global, ports: &[Port<'_>], flop: &FlopGroup<'_>) -> Result<(), CellFault>
-    ensures { OrNoMemory NoMemory (λ _. tt) result (flop_checked (input_names ports.now) (output_texts ports.now) flop.now) }
+fn check_register(
+    alloc: Global,
+    controls: bool,
+    ports: &[Port<'_>],
+    flop: &FlopGroup<'_>,
+) -> Result<(), CellFault>
+    ensures { OrNoMemory NoMemory (λ _. tt) result (flop_checked controls (input_names ports.now) (output_texts ports.now) flop.now) }
 {
     let inputs = input_names_of(alloc, ports)?;
     let states = IndexedArguments::new(alloc, flop.names.again())?;
-    check_expressions(alloc, ports, flop, inputs.as_slice(), &states)
+    check_expressions(alloc, controls, ports, flop, inputs.as_slice(), &states)
 }
 
 /// The cell of a register that cannot be usable.
 #[tactic(auto, using(crate::proofs::FaultsAlone::only_faults))]
 pub fn checked_cell_of(
     alloc: Global,
+    controls: bool,
     name: Name,
     ports: &[Port<'_>],
     flop: &FlopGroup<'_>,
 ) -> Result<CellType, CellFault>
     requires named { IsTrue (is_name name) }
-    requires odd { is_plain_flop (input_names ports.now) flop.now ≡ false }
-    ensures { OrNoMemory NoMemory (λ cell. cell) result (flop_cell name ports.now flop.now) }
+    requires odd { is_plain_flop controls (input_names ports.now) flop.now ≡ false }
+    ensures { OrNoMemory NoMemory (λ cell. cell) result (flop_cell controls name ports.now flop.now) }
 {
-    check_register(alloc, ports, flop)?;
+    check_register(alloc, controls, ports, flop)?;
     Ok(unusable_cell(alloc, name)?)
 }

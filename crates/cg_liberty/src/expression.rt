@@ -6,12 +6,14 @@ ghost use Rattle.cg_cell.specs.Expr.{is_over, term_of};
 ghost use Rattle.cg_liberty_expression.specs.Reading.{read_text};
 ghost use Rattle.cg_cell.specs.Term.{is_within};
 ghost use Rattle.cg_liberty.specs.declared.fault.CellFault.TheVariants.{NoMemory};
+ghost use Rattle.cg_liberty.specs.Kinds.{read_if};
 ghost use Rattle.cg_liberty.specs.Reading.{reading, taken};
 
 use crate::fault::CellFault;
 use cg_cell::expr::Expr;
 use cg_cell::name::Name;
 use cg_liberty_expression::{ExprFault, read_expr};
+use cg_liberty_group::group::Stated;
 use cg_liberty_text::text::Text;
 use std::alloc::Global;
 
@@ -50,4 +52,21 @@ pub fn read_stated(
     };
     let bytes = text.bytes(alloc)?;
     read_bytes(alloc, &bytes, names)
+}
+
+/// Reads the expression over these names that an attribute has, where it is to be read at all.
+pub fn read_if(
+    alloc: Global,
+    wanted: bool,
+    stated: &Stated<'_>,
+    names: &[Name],
+) -> Result<Option<Expr>, CellFault>
+    ensures read { OrNoMemory NoMemory (λ e. option_map term_of e) result (read_if wanted names.now stated.now) }
+    ensures within { IfOk result (λ e. IfSome e (λ e. IsTrue (is_within (length names.now) (term_of e)))) }
+{
+    if wanted {
+        read_stated(alloc, &stated.text(), names)
+    } else {
+        Ok(None)
+    }
 }

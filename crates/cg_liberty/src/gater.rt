@@ -1,6 +1,7 @@
 //! Gating cells: a clock, an enable, an output, and a test input where the cell has one.
 
 ghost use Rattle.std.specs.Prelude.{◌≡◌, ◌==◌, ◌&&◌, IfOk, IsTrue, count_by, None, Some, option_map, true};
+ghost use Rattle.cg_cell.specs.Cell.{no_control};
 ghost use Rattle.cg_cell.specs.Name.{is_name};
 ghost use Rattle.cg_cell.specs.Pins.{is_clock, is_enable, is_output, is_test};
 ghost use Rattle.cg_liberty.specs.Kinds.{are_gater_pins, gater_of, gater_pins, gater_role, input_role};
@@ -113,9 +114,9 @@ fn make_gater(
     requires ports { ArePorts ports.now }
     requires found { Some pins.items ≡ gater_pins tested ports.now }
     requires fit { are_gater_pins tested pins.items ≡ true }
-    ensures { IfOk result (λ cell. cell ≡ record { name = name; kind = CellKind.Gater; pins = pins.items; function = None }) }
+    ensures { IfOk result (λ cell. cell ≡ record { name = name; kind = CellKind.Gater; pins = pins.items; function = None; control = no_control }) }
 {
-    CellType::new(name, CellKind::Gater, pins, None)
+    CellType::new(name, CellKind::Gater, pins, None, None)
 }
 
 /// The gating cell of these pins, with a test input or without, or an unusable cell.

@@ -41,6 +41,7 @@ fn cell_by_gating(
 /// The cell of these pins without a gating attribute or other states than flip-flops.
 fn cell_by_flop_groups(
     alloc: Global,
+    controls: bool,
     name: Name,
     cell: &CellGroup<'_>,
     ports: &[Port<'_>],
@@ -48,11 +49,11 @@ fn cell_by_flop_groups(
     requires named { IsTrue (is_name name) }
     requires ports { ArePorts ports.now }
     requires name { name ≡ cell.now.name }
-    ensures { OrNoMemory NoMemory (λ cell. cell) result (cell_by_flops cell.now ports.now cell.now.flops) }
+    ensures { OrNoMemory NoMemory (λ cell. cell) result (cell_by_flops controls cell.now ports.now cell.now.flops) }
 {
     match &cell.flops {
         Flops::Absent => logic_cell_of(alloc, name, ports),
-        Flops::One(flop) => flop_cell_of(alloc, name, ports, flop),
+        Flops::One(flop) => flop_cell_of(alloc, controls, name, ports, flop),
         Flops::Several => Ok(unusable_cell(alloc, name)?),
     }
 }
@@ -60,6 +61,7 @@ fn cell_by_flop_groups(
 /// The cell of these pins, by what its group says.
 fn cell_with_ports(
     alloc: Global,
+    controls: bool,
     name: Name,
     cell: &CellGroup<'_>,
     ports: &[Port<'_>],
@@ -67,7 +69,7 @@ fn cell_with_ports(
     requires named { IsTrue (is_name name) }
     requires ports { ArePorts ports.now }
     requires name { name ≡ cell.now.name }
-    ensures { OrNoMemory NoMemory (λ cell. cell) result (cell_with_ports cell.now (Some ports.now)) }
+    ensures { OrNoMemory NoMemory (λ cell. cell) result (cell_with_ports controls cell.now (Some ports.now)) }
 {
     if cell.gating.is_there() {
         return Ok(cell_by_gating(alloc, name, cell, ports)?);
@@ -75,17 +77,22 @@ fn cell_with_ports(
     if cell.has_bank {
         return Ok(unusable_cell(alloc, name)?);
     }
-    cell_by_flop_groups(alloc, name, cell, ports)
+    cell_by_flop_groups(alloc, controls, name, cell, ports)
 }
 
 /// The cell that a group describes, under its name.
-pub fn cell_of_group(alloc: Global, name: Name, cell: &CellGroup<'_>) -> Result<CellType, CellFault>
+pub fn cell_of_group(
+    alloc: Global,
+    controls: bool,
+    name: Name,
+    cell: &CellGroup<'_>,
+) -> Result<CellType, CellFault>
     requires named { IsTrue (is_name name) }
     requires name { name ≡ cell.now.name }
-    ensures { OrNoMemory NoMemory (λ cell. cell) result (cell_of cell.now) }
+    ensures { OrNoMemory NoMemory (λ cell. cell) result (cell_of controls cell.now) }
 {
     let Some(ports) = ports_of_cell(alloc, cell)? else {
         return Ok(unusable_cell(alloc, name)?);
     };
-    cell_with_ports(alloc, name, cell, ports.as_slice())
+    cell_with_ports(alloc, controls, name, cell, ports.as_slice())
 }

@@ -9,8 +9,8 @@
 //!
 //! - `port`: the pins of a cell;
 //! - `expression`: the expressions of a cell;
-//! - `logic`, `gater`, `flop`: cells of each kind, with `restate` for the function of a register
-//!   over its own pins;
+//! - `logic`, `gater`, `flop`: cells of each kind, with `control` for the control of a register and `restate` for
+//!   expressions over its own pins;
 //! - `checked`: registers that cannot be usable, of which only the faults count;
 //! - `kind`: the rule that decides the kind of a cell;
 //! - [`library`]: the library, or the first fault;
@@ -18,6 +18,7 @@
 #![tactic(auto)]
 
 mod checked;
+mod control;
 mod expression;
 pub mod fault;
 mod flop;

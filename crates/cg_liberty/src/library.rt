@@ -1,10 +1,10 @@
 //! A library from its text.
 
-ghost use Rattle.std.specs.Prelude.{◌≡◌, ◌≤◌, List, [], length, None, IfErr, IfOk, IsTrue, OnOk, Some, MatchResult, Ok};
+ghost use Rattle.std.specs.Prelude.{◌≡◌, ◌≤◌, List, [], false, length, None, IfErr, IfOk, IsTrue, OnOk, Some, MatchResult, Ok};
 ghost use Rattle.std.specs.List.{AllByRecursion};
 ghost use Rattle.cg_limit.specs.Answers.{OrNoMemory};
 ghost use Rattle.cg_cell.specs.Name.{is_name};
-ghost use Rattle.cg_cell.specs.Cell.{CellData, IsCell};
+ghost use Rattle.cg_cell.specs.Cell.{CellData, IsCell, has_control};
 ghost use Rattle.cg_cell.specs.Library.{IsFound};
 ghost use Rattle.cg_liberty_group.specs.Cell.{GivesUp, cell_from, new_cell};
 ghost use Rattle.cg_liberty_group.specs.Group.{IsLeft};
@@ -46,15 +46,16 @@ fn refusal_of_cell(name: Name, fault: CellFault) -> LibertyFault
 fn add_named(
     alloc: Global,
     library: &mut Library,
+    controls: bool,
     name: Name,
     group: &CellGroup<'_>,
 ) -> Result<(), LibertyFault>
     requires named { IsTrue (is_name name) }
     requires name { name ≡ group.now.name }
-    ensures { OrNoMemory NoMemory (λ _. library.new) result (with_cell library.old name (cell_of group.now)) }
+    ensures { OrNoMemory NoMemory (λ _. library.new) result (with_cell library.old name (cell_of controls group.now)) }
 {
     let own = name.clone()?;
-    match cell_of_group(alloc, own, group) {
+    match cell_of_group(alloc, controls, own, group) {
         Err(fault) => Err(refusal_of_cell(name, fault)),
         Ok(cell) => match library.add(cell) {
             Ok(_) => Ok(()),
@@ -67,11 +68,12 @@ fn add_named(
 fn add_spelled(
     alloc: Global,
     library: &mut Library,
+    controls: bool,
     bytes: &[u8],
     group: &CellGroup<'_>,
 ) -> Result<(), LibertyFault>
     requires { bytes.now ≡ group.now.name }
-    ensures { OrNoMemory NoMemory (λ _. library.new) result (added library.old group.now) }
+    ensures { OrNoMemory NoMemory (λ _. library.new) result (added controls library.old group.now) }
 {
     if !Name::is_name(bytes) {
         return Ok(());
@@ -83,23 +85,33 @@ fn add_spelled(
     if library.find(bytes).is_some() {
         return Err(LibertyFault::TwoCells(name));
     }
-    add_named(alloc, library, name, group)
+    add_named(alloc, library, controls, name, group)
 }
 
 /// Adds the cell that a group describes to a library.
-fn add_cell(alloc: Global, library: &mut Library, group: &CellGroup<'_>) -> Result<(), LibertyFault>
-    ensures { OrNoMemory NoMemory (λ _. library.new) result (added library.old group.now) }
+fn add_cell(
+    alloc: Global,
+    library: &mut Library,
+    controls: bool,
+    group: &CellGroup<'_>,
+) -> Result<(), LibertyFault>
+    ensures { OrNoMemory NoMemory (λ _. library.new) result (added controls library.old group.now) }
 {
     let bytes = group.name.bytes(alloc)?;
-    add_spelled(alloc, library, &bytes, group)
+    add_spelled(alloc, library, controls, &bytes, group)
 }
 
 /// Adds the cell that a group describes to a library that was not refused yet.
-fn add_to(alloc: Global, library: &mut Result<Library, LibertyFault>, group: &CellGroup<'_>)
-    ensures { Adds library.old library.new group.now }
+fn add_to(
+    alloc: Global,
+    library: &mut Result<Library, LibertyFault>,
+    controls: bool,
+    group: &CellGroup<'_>,
+)
+    ensures { Adds controls library.old library.new group.now }
 {
     if let Ok(cells) = library {
-        if let Err(fault) = add_cell(alloc, cells, group) {
+        if let Err(fault) = add_cell(alloc, cells, controls, group) {
             *library = Err(fault);
         }
     }
@@ -120,14 +132,15 @@ fn take_cell<'a>(
     alloc: Global,
     statements: &mut Statements<'a>,
     library: &mut Result<Library, LibertyFault>,
+    controls: bool,
     arguments: Arguments<'a>,
 ) -> Result<(), ReadFault>
-    ensures taken { MatchResult result (λ _. Adds library.old library.new (cell_from 0 (new_cell (first_text arguments.entry)) statements.old.0)
+    ensures taken { MatchResult result (λ _. Adds controls library.old library.new (cell_from 0 (new_cell (first_text arguments.entry)) statements.old.0)
         × IsLeft statements.old statements.new) (GivesUp statements.old) }
     ensures shorter { OnOk result (length statements.new.0 ≤ length statements.old.0) }
 {
     let group = read_cell(alloc, statements, first_argument(arguments))?;
-    add_to(alloc, library, &group);
+    add_to(alloc, library, controls, &group);
     Ok(())
 }
 
@@ -146,9 +159,10 @@ fn read_cells(
     alloc: Global,
     statements: &mut Statements<'_>,
     library: &mut Result<Library, LibertyFault>,
+    controls: bool,
 ) -> Result<(), ReadFault>
     requires { library.now ≡ Ok [] }
-    ensures { MatchResult result (λ _. (statements.old.1 ≡ None) × OrNoMemory NoMemory (λ read. read) library.new (all_added [] (cells_from 0 statements.old.0)))
+    ensures { MatchResult result (λ _. (statements.old.1 ≡ None) × OrNoMemory NoMemory (λ read. read) library.new (all_added controls [] (cells_from 0 statements.old.0)))
         (GivesUp statements.old) }
 {
     'statements: while let Some(statement) = statements.next()? {
@@ -158,7 +172,7 @@ fn read_cells(
                     pass_group(statements)?;
                     continue;
                 }
-                take_cell(alloc, statements, library, arguments)?;
+                take_cell(alloc, statements, library, controls, arguments)?;
             }
             Statement::Close => return Ok(pass_rest(statements)?),
             Statement::Attribute(_, _) => {}
@@ -172,27 +186,28 @@ fn read_text(
     alloc: Global,
     statements: &mut Statements<'_>,
     library: &mut Result<Library, LibertyFault>,
+    controls: bool,
 ) -> Result<(), ReadFault>
     requires { library.now ≡ Ok [] }
-    ensures { MatchResult result (λ _. (statements.old.1 ≡ None) × OrNoMemory NoMemory (λ read. read) library.new (all_added [] (cell_groups statements.old.0)))
+    ensures { MatchResult result (λ _. (statements.old.1 ≡ None) × OrNoMemory NoMemory (λ read. read) library.new (all_added controls [] (cell_groups statements.old.0)))
         (GivesUp statements.old) }
 {
     match statements.next()? {
-        Some(Statement::Open(_, _)) => read_cells(alloc, statements, library),
+        Some(Statement::Open(_, _)) => read_cells(alloc, statements, library, controls),
         Some(_) => Ok(pass_rest(statements)?),
         None => Ok(()),
     }
 }
 
 /// The library that a text stands for, or its first fault.
-fn library_of_bytes(alloc: Global, bytes: &[u8]) -> Result<Library, LibertyFault>
-    ensures stands { OrNoMemory NoMemory (λ library. library) result (library_of bytes.now) }
+fn library_of_bytes(alloc: Global, bytes: &[u8], controls: bool) -> Result<Library, LibertyFault>
+    ensures stands { OrNoMemory NoMemory (λ library. library) result (library_of controls bytes.now) }
     ensures cells { IfOk result (λ library. AllByRecursion IsCell library) }
     ensures named { IfOk result (λ library. AllByRecursion (IsFound library) library) }
 {
     let mut statements = Statements::new(bytes);
     let mut library = Ok(Library::new(alloc));
-    read_text(alloc, &mut statements, &mut library)?;
+    read_text(alloc, &mut statements, &mut library, controls)?;
     let library = library?;
     // What a library keeps is known of each.
     prove!(library.len() as usize <= MOST_LIBRARY_CELLS);
@@ -207,13 +222,17 @@ fn library_of_bytes(alloc: Global, bytes: &[u8]) -> Result<Library, LibertyFault
 /// nest deeper than 64. Then the cells are taken in order, and for each: `Limit(LibraryCells)` where
 /// 4,096 are there; `TwoCells` where its name is taken; `BadExpr`, or `Limit(Nesting)`, for its first
 /// expression that is none, or that nests deeper than 64.
-pub fn read_library(alloc: Global, bytes: &[u8]) -> Result<Library, LibertyFault>
-    ensures exact { OrNoMemory NoMemory (λ library. library) result (library_of bytes.now) }
-    ensures found { IfOk result (λ library. LibText bytes.now library) }
+///
+/// A register with an asynchronous clear or preset is usable where `controls` is true; where it is false, the two expressions are
+/// not read, and a cell that has one is unusable.
+pub fn read_library(alloc: Global, bytes: &[u8], controls: bool) -> Result<Library, LibertyFault>
+    ensures exact { OrNoMemory NoMemory (λ library. library) result (library_of controls bytes.now) }
+    ensures found { IfOk result (λ library. LibText controls bytes.now library) }
     ensures cells { IfOk result (λ library. AllByRecursion IsCell library) }
     ensures named { IfOk result (λ library. AllByRecursion (IsFound library) library) }
+    ensures unread { controls ≡ false → IfOk result (λ library. AllByRecursion (λ cell. has_control cell.control ≡ false) library) }
     ensures fault { IfErr result (IsFirstLibertyFault bytes.now) }
-    ensures only { (cells : List CellData) → LibText bytes.now cells → MatchResult result (λ library. library ≡ cells) (λ fault. fault ≡ NoMemory) }
+    ensures only { (cells : List CellData) → LibText controls bytes.now cells → MatchResult result (λ library. library ≡ cells) (λ fault. fault ≡ NoMemory) }
 {
-    library_of_bytes(alloc, bytes)
+    library_of_bytes(alloc, bytes, controls)
 }

@@ -3,6 +3,7 @@
 ghost use Rattle.std.specs.Prelude.{◌≡◌, ◌++◌, All, Some, IfOk, IfSome, IsTrue, OnOk, length, map, option_map, vec_len};
 ghost use Rattle.cg_limit.specs.Answers.{OrNoMemory};
 ghost use Rattle.cg_cell.specs.Expr.{term_of};
+ghost use Rattle.cg_cell.specs.Cell.{no_control};
 ghost use Rattle.cg_cell.specs.Name.{is_name};
 ghost use Rattle.cg_cell.specs.Term.{is_within};
 ghost use Rattle.cg_liberty.specs.declared.fault.CellFault.TheVariants.{NoMemory};
@@ -24,7 +25,7 @@ pub fn unusable_cell(alloc: Global, name: Name) -> Result<CellType, AllocError>
     requires { IsTrue (is_name name) }
     ensures { IfOk result (λ cell. cell ≡ unusable name) }
 {
-    CellType::new(name, CellKind::Unusable, Vec::new(alloc), None)
+    CellType::new(name, CellKind::Unusable, Vec::new(alloc), None, None)
 }
 
 /// Puts the names of the input pins behind the other names, in order.
@@ -84,9 +85,9 @@ fn make_logic(
     requires one { length (output_texts ports.now) ≡ 1 }
     requires within { IsTrue (is_within (length (input_names ports.now)) (term_of function)) }
     ensures { IfOk result
-        (λ cell. cell ≡ record { name = name; kind = CellKind.Logic; pins = logic_pins ports.now; function = Some (term_of function) }) }
+        (λ cell. cell ≡ record { name = name; kind = CellKind.Logic; pins = logic_pins ports.now; function = Some (term_of function); control = no_control }) }
 {
-    CellType::new(name, CellKind::Logic, pins, Some(function))
+    CellType::new(name, CellKind::Logic, pins, Some(function), None)
 }
 
 /// The cell of these pins, where it has one output and that has a function; else it is unusable.
@@ -114,8 +115,8 @@ fn logic_with(
     }
 }
 
-/// Reads the functions of the output pins over the names of the input pins.
-fn read_functions(
+/// Reads the functions of the output pins over these names.
+pub fn read_functions(
     alloc: Global,
     ports: &[Port<'_>],
     names: &[Name],

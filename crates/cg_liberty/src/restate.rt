@@ -1,76 +1,72 @@
-//! The function of a register over its own pins.
+//! Expressions of a register over its own pins.
 
-ghost use Rattle.std.specs.Prelude.{◌≡◌, ◌≤◌, IfOk, map};
+ghost use Rattle.std.specs.Prelude.{◌≡◌, IfOk, map};
 ghost use Rattle.cg_cell.specs.Expr.{term_of, terms_of};
-ghost use Rattle.cg_liberty.specs.Kinds.{restated, slot};
+ghost use Rattle.cg_liberty.specs.Kinds.{with_inputs};
+ghost use Rattle.cg_liberty.specs.inner.Slots.{slot_term, stands_in};
 
 use cg_cell::expr::Expr;
 use std::alloc::{AllocError, Global};
 
-/// How the inputs of a `next_state` are numbered: the input pins, among them the clock, then the state,
-/// then its inverse.
+/// What stands for a variable of an expression: another variable, or the inverse of one.
 #[derive(Clone, Copy)]
-pub struct Numbering {
-    /// How many input pins there are.
-    pub inputs: u32,
+pub struct Slot {
+    /// The variable that stands for it.
+    pub variable: u32,
 
-    /// Which of them is the clock.
-    pub clock: u32,
+    /// Whether that is its inverse.
+    pub inverted: bool,
 }
 
-/// What stands in the cell's function for input `k` of a `next_state`.
-fn slot_of(alloc: Global, numbering: Numbering, k: u32) -> Result<Expr, AllocError>
-    requires least { 1 ≤ numbering.inputs }
-    requires most { numbering.inputs ≤ 16 }
-    ensures { IfOk result (λ e. term_of e ≡ slot numbering.inputs numbering.clock k) }
+/// What an entry stands for.
+fn expression_of(alloc: Global, slot: Slot) -> Result<Expr, AllocError>
+    ensures { IfOk result (λ e. term_of e ≡ slot_term slot) }
 {
-    if k == numbering.inputs + 1 {
-        let own = Box::new(alloc, Expr::Variable(numbering.inputs - 1))?;
-        return Ok(Expr::Not(1, own));
+    if !slot.inverted {
+        return Ok(Expr::Variable(slot.variable));
     }
-    if numbering.clock < k {
-        return Ok(Expr::Variable(k - 1));
-    }
-    Ok(Expr::Variable(k))
+    let own = Box::new(alloc, Expr::Variable(slot.variable))?;
+    Ok(Expr::Not(1, own))
 }
 
-/// A `next_state` as the function of the cell: over the input pins without the clock, and the
-/// register's own bit behind them.
+/// What stands for variable `k`; one behind the table stays as it is.
+fn slot_of(alloc: Global, slots: &[Slot], k: u32) -> Result<Expr, AllocError>
+    ensures { IfOk result (λ e. term_of e ≡ stands_in slots.now k) }
+{
+    match slots.get(k as usize) {
+        None => Ok(Expr::Variable(k)),
+        Some(slot) => expression_of(alloc, *slot),
+    }
+}
+
+/// An expression with what stands for its variables in their places.
 #[cycle(restate)]
 #[tactic(auto, using(crate::proofs::Restated::steps))]
-pub fn restate(alloc: Global, expr: &Expr, numbering: Numbering) -> Result<Expr, AllocError>
-    requires least { 1 ≤ numbering.inputs }
-    requires most { numbering.inputs ≤ 16 }
-    ensures { IfOk result (λ e. term_of e ≡ restated numbering.inputs numbering.clock (term_of expr.now)) }
+pub fn restate(alloc: Global, expr: &Expr, slots: &[Slot]) -> Result<Expr, AllocError>
+    ensures { IfOk result (λ e. term_of e ≡ with_inputs (stands_in slots.now) (term_of expr.now)) }
 {
     match expr {
         Expr::Constant(bit) => Ok(Expr::Constant(*bit)),
-        Expr::Variable(k) => slot_of(alloc, numbering, *k),
+        Expr::Variable(k) => slot_of(alloc, slots, *k),
         Expr::Not(signs, operand) => {
-            let inner = restate(alloc, operand, numbering)?;
+            let inner = restate(alloc, operand, slots)?;
             let boxed = Box::new(alloc, inner)?;
             Ok(Expr::Not(*signs, boxed))
         }
-        Expr::And(operands) => Ok(Expr::And(restate_all(alloc, operands, numbering)?)),
-        Expr::Or(operands) => Ok(Expr::Or(restate_all(alloc, operands, numbering)?)),
-        Expr::Xor(operands) => Ok(Expr::Xor(restate_all(alloc, operands, numbering)?)),
+        Expr::And(operands) => Ok(Expr::And(restate_all(alloc, operands, slots)?)),
+        Expr::Or(operands) => Ok(Expr::Or(restate_all(alloc, operands, slots)?)),
+        Expr::Xor(operands) => Ok(Expr::Xor(restate_all(alloc, operands, slots)?)),
     }
 }
 
-/// Each operand of a level, over the register's own pins.
+/// Each operand of a level with what stands for its variables in their places.
 #[cycle(restate)]
-fn restate_all(
-    alloc: Global,
-    operands: &[Expr],
-    numbering: Numbering,
-) -> Result<Vec<Expr>, AllocError>
-    requires least { 1 ≤ numbering.inputs }
-    requires most { numbering.inputs ≤ 16 }
-    ensures { IfOk result (λ copies. terms_of copies.items ≡ map (restated numbering.inputs numbering.clock) (terms_of operands.now)) }
+fn restate_all(alloc: Global, operands: &[Expr], slots: &[Slot]) -> Result<Vec<Expr>, AllocError>
+    ensures { IfOk result (λ copies. terms_of copies.items ≡ map (with_inputs (stands_in slots.now)) (terms_of operands.now)) }
 {
     let mut restated = Vec::with_capacity(alloc, operands.len())?;
     'operands: for operand in operands {
-        let copy = restate(alloc, operand, numbering)?;
+        let copy = restate(alloc, operand, slots)?;
         restated.push(copy)?;
     }
     Ok(restated)

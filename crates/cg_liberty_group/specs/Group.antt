@@ -87,6 +87,8 @@ new_flop names =
       clear = Missing;
       preset = Missing;
       clocked_on_also = Missing;
+      state_of_both = Missing;
+      inverse_of_both = Missing;
     }
 
 -- an `ff` group behind one more attribute
@@ -97,7 +99,9 @@ flop_with flop word text =
     (cond (bytes_eq word (codes "clear")) (record flop { clear = stated text })
     (cond (bytes_eq word (codes "preset")) (record flop { preset = stated text })
     (cond (bytes_eq word (codes "clocked_on_also")) (record flop { clocked_on_also = stated text })
-    flop))))
+    (cond (bytes_eq word (codes "clear_preset_var1")) (record flop { state_of_both = stated text })
+    (cond (bytes_eq word (codes "clear_preset_var2")) (record flop { inverse_of_both = stated text })
+    flop))))))
 
 -- an `ff` group whose statements go on here inside so many further groups
 abbrev pub flop_from : ℕ → FlopGroup → List Statement → FlopGroup

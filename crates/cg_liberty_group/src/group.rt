@@ -157,6 +157,12 @@ pub struct FlopGroup<'a> {
 
     /// `clocked_on_also`
     pub clocked_on_also: Stated<'a>,
+
+    /// `clear_preset_var1`
+    pub state_of_both: Stated<'a>,
+
+    /// `clear_preset_var2`
+    pub inverse_of_both: Stated<'a>,
 }
 
 impl<'a> FlopGroup<'a> {
@@ -171,6 +177,8 @@ impl<'a> FlopGroup<'a> {
             clear: Stated::Missing,
             preset: Stated::Missing,
             clocked_on_also: Stated::Missing,
+            state_of_both: Stated::Missing,
+            inverse_of_both: Stated::Missing,
         }
     }
 
@@ -189,6 +197,10 @@ impl<'a> FlopGroup<'a> {
             self.preset = stated;
         } else if word.is(b"clocked_on_also") {
             self.clocked_on_also = stated;
+        } else if word.is(b"clear_preset_var1") {
+            self.state_of_both = stated;
+        } else if word.is(b"clear_preset_var2") {
+            self.inverse_of_both = stated;
         }
     }
 }

@@ -1,6 +1,7 @@
 -- A machine with gates and delay registers added, some of them or none: what it keeps of the machine before.
+use Rattle.std.proofs.Common.{zero, suc, false}
 use Rattle.std.proofs.Common.{◌≡◌, ℕ, ◌+◌, ◌-◌, ◌<◌, ◌≤◌, Bool, true, ◌||◌, not, if◌then◌else◌, List, [], ◌∷◌, ◌++◌, map, length}
-use Rattle.std.proofs.Common.{slice_get, take, Option, None, Some, nat_eq, refl, sym, ◌∙◌, ap, inl, inr, arith, length-append}
+use Rattle.std.proofs.Common.{slice_get, take, Option, None, Some, is_none, nat_eq, refl, sym, ◌∙◌, ap, inl, inr, arith, length-append}
 use Rattle.std.proofs.lemmas.Bool.{eq-eqb, or_left, or_right}
 use Rattle.std.proofs.lemmas.List.{length-replicate, length-take-le, take-replicate, take_all}
 use Rattle.std.proofs.lemmas.Option.{slice_get_past}
@@ -8,14 +9,16 @@ use Rattle.std.proofs.Math.Seq.{take-append-add}
 use Rattle.cg_netlist.specs.Circuit.{RegisterCell, used_nets}
 use Rattle.cg_net.specs.NetSets.{is_in}
 use Rattle.cg_netlist.specs.History.{next_value}
-use Rattle.cg_netlist.specs.Moment.{bit, values_at}
+use Rattle.cg_netlist.specs.Moment.{bit, forced_bit, forced_value, is_controlled, values_at}
 use Rattle.cg_net.proofs.Members.{All-member}
-use Rattle.cg_netlist.proofs.Used.{data_is_used, output_is_used}
-use Rattle.cg_netlist.proofs.Values.{same_places, same_values}
+use Rattle.cg_netlist.proofs.Used.{control_is_used, data_is_used, output_is_used}
+use Rattle.cg_netlist.proofs.Values.{element_at, same_places, same_values, zip_with_at}
 use Rattle.cg_machine.specs.Claims.{EqualOutside, Follows, Hold, Joined, Literal, Next, Shown, Stable, Target, Unseen, any_at}
-use Rattle.cg_machine.specs.Claims.{literal_bit, target_bit}
+use Rattle.cg_machine.specs.Claims.{is_followed, lasting_enable, literal_bit, target_bit}
 use Rattle.cg_machine.specs.Machine.{IsInputs, IsMachine, IsNet, IsState, MachineData, enable_of, load, next, next_of, outputs_at, step}
-use Rattle.cg_machine.specs.Machine.{values}
+use Rattle.cg_machine.specs.Machine.{at_rest, forced_after, has_controls, values}
+use Rattle.cg_machine.proofs.Forcing.{after_long, rest_long, rest_more}
+use Rattle.std.specs.Option.{option_map_or}
 use Rattle.cg_machine.proofs.Bits.{each_get, length-each, same_bit}
 use Rattle.cg_machine.specs.Extends.{Extends, old}
 use Rattle.cg_machine.specs.Run.{Same, Simulates, ones}
@@ -84,6 +87,10 @@ module _ (m n : MachineData) (good : IsMachine m) (e : Extends m n) where
       go None is = refl
       go (Some y) is = front_bit m n e t x long ins y (good.enabled r y is).below
 
+  -- what a register reads of n is what it reads of m
+  pub taken_old : (t x : List Bool) → IsState n t → IsInputs m x → (r : ℕ) (cell : RegisterCell ℕ ℕ) → slice_get m.circuit.registers r ≡ Some cell → values_at (values n t x) cell.inputs ≡ values_at (values m (old m t) x) cell.inputs
+  taken_old t x long ins r cell is = same_values (values n t x) (values m (old m t) x) cell.inputs (λ y among. e.fronts t x long ins y (taken_below m good r cell y is among))
+
   pub next_old : (t x : List Bool) → IsState n t → IsInputs m x → (r : ℕ) → r < length m.circuit.registers → next n (values n t x) t r ≡ next m (values m (old m t) x) (old m t) r
   next_old t x long ins r below =
       ap (λ (c : Option (RegisterCell ℕ ℕ)). next_of c (enable_of n r) (values n t x) (bit t r)) (e.registers r below)
@@ -94,7 +101,7 @@ module _ (m n : MachineData) (good : IsMachine m) (e : Extends m n) where
       cells : (c : Option (RegisterCell ℕ ℕ)) → slice_get m.circuit.registers r ≡ c → next_of c (enable_of m r) (values n t x) (bit (old m t) r) ≡ next_of c (enable_of m r) (values m (old m t) x) (bit (old m t) r)
       cells None is = refl
       cells (Some cell) is =
-          let taken : values_at (values n t x) cell.inputs ≡ values_at (values m (old m t) x) cell.inputs = same_values (values n t x) (values m (old m t) x) cell.inputs (λ y among. e.fronts t x long ins y (taken_below m good r cell y is among)) in
+          let taken : values_at (values n t x) cell.inputs ≡ values_at (values m (old m t) x) cell.inputs = taken_old t x long ins r cell is in
           ap (λ b. if b then next_value cell.kind (values_at (values n t x) cell.inputs) (bit (old m t) r) else bit (old m t) r) (load_same t x long ins r)
           ∙ ap (λ bits. if load (values m (old m t) x) (enable_of m r) then next_value cell.kind bits (bit (old m t) r) else bit (old m t) r) taken
 
@@ -110,6 +117,52 @@ module _ (m n : MachineData) (good : IsMachine m) (e : Extends m n) where
       ∙ (ap Some (next_old t x long ins r small)
       ∙ sym (each_get m (next m (values m (old m t) x) (old m t)) r small))))
 
+  -- what the controls of n force in the registers of m is what those of m force
+  pub controls_old : (u x : List Bool) → IsState n u → IsInputs m x → (r : ℕ) (cell : RegisterCell ℕ ℕ) → slice_get m.circuit.registers r ≡ Some cell → values_at (values n u x) cell.controls ≡ values_at (values m (old m u) x) cell.controls
+  controls_old u x long ins r cell at = same_values (values n u x) (values m (old m u) x) cell.controls (λ y among.
+      e.fronts u x long ins y (All-member (λ net. net < length m.circuit.names) (used_nets m.circuit) y good.well_formed.used (control_is_used m.circuit r y cell at among)))
+
+  after_old : (t x : List Bool) → IsState n t → IsInputs m x → (k : ℕ) → old m (forced_after n t x k) ≡ forced_after m (old m t) x k
+  after_old t x long ins zero = refl
+  after_old t x long ins (suc k) =
+      let u : List Bool = forced_after n t x k in
+      let long_u : IsState n (forced_after n t x k) = after_long n t x long k in
+      let long_t : IsState m (old m t) = old_long m n e t long in
+      let long_left : IsState m (old m (forced_after n t x (suc k))) = old_long m n e (forced_after n t x (suc k)) (after_long n t x long (suc k)) in
+      same_places (old m (forced_after n t x (suc k))) (forced_after m (old m t) x (suc k)) (long_left ∙ sym (after_long m (old m t) x long_t (suc k))) (λ r below.
+      let small : r < length m.circuit.registers = omega (arith, below, long_left) in
+      let cell : (c : RegisterCell ℕ ℕ) × (slice_get m.circuit.registers r ≡ Some c) = element_at m.circuit.registers r small in
+      let held : (b : Bool) × (slice_get (old m t) r ≡ Some b) = element_at (old m t) r (omega (arith, small, long_t)) in
+      take_get (length m.circuit.registers) (forced_after n t x (suc k)) r small
+      ∙ (zip_with_at (forced_bit (values n (forced_after n t x k) x)) n.circuit.registers t r cell.0 held.0 (e.registers r small ∙ cell.1) (sym (take_get (length m.circuit.registers) t r small) ∙ held.1)
+      ∙ (ap (λ bits. Some (forced_value cell.0.kind bits held.0)) (controls_old (forced_after n t x k) x long_u ins r cell.0 cell.1 ∙ ap (λ w. values_at (values m w x) cell.0.controls) (after_old t x long ins k))
+      ∙ sym (zip_with_at (forced_bit (values m (forced_after m (old m t) x k) x)) m.circuit.registers (old m t) r cell.0 held.0 cell.1 held.1))))
+
+  pub rest_old : (t x : List Bool) → IsState n t → IsInputs m x → old m (at_rest n t x) ≡ at_rest m (old m t) x
+  rest_old t x long ins =
+      let more : ℕ = length n.circuit.registers - length m.circuit.registers in
+      let count : length n.circuit.registers ≡ more + length m.circuit.registers = omega (arith, e.count) in
+      after_old t x long ins (length n.circuit.registers)
+      ∙ (ap (forced_after m (old m t) x) count
+      ∙ rest_more m good (old m t) x (old_long m n e t long) ins more)
+
+  -- registers of m have controls in n where they have in m
+  pub controls_same : (r : ℕ) → r < length m.circuit.registers → has_controls n r ≡ has_controls m r
+  controls_same r below = ap (λ o. option_map_or (λ (cell : RegisterCell ℕ ℕ). is_controlled cell.kind) o false) (e.registers r below)
+
+  lasting_same : (r : ℕ) → r < length m.circuit.registers → lasting_enable n r ≡ lasting_enable m r
+  lasting_same r below = ap (λ b. if b then None else enable_of n r) (controls_same r below) ∙ ap (λ (o : Option ℕ). if has_controls m r then None else o) (e.enables r below)
+
+  followed_same : (r : ℕ) → r < length m.circuit.registers → is_followed n r ≡ is_followed m r
+  followed_same r below = ap (λ b. not b || is_none (enable_of n r)) (controls_same r below) ∙ ap (λ (o : Option ℕ). not (has_controls m r) || is_none o) (e.enables r below)
+
+  load_lasting : (t x : List Bool) → IsState n t → IsInputs m x → (r : ℕ) → load (values n t x) (lasting_enable m r) ≡ load (values m (old m t) x) (lasting_enable m r)
+  load_lasting t x long ins r = go (has_controls m r)
+    where
+      go : (b : Bool) → load (values n t x) (if b then None else enable_of m r) ≡ load (values m (old m t) x) (if b then None else enable_of m r)
+      go true = refl
+      go false = load_same t x long ins r
+
   -- what is added shows nothing
   abbrev R : List Bool → List Bool → Type 0
   R s t = IsState n t × (s ≡ old m t)
@@ -124,6 +177,7 @@ module _ (m n : MachineData) (good : IsMachine m) (e : Extends m n) where
       length-each n (next n (values n t x) t),
       ap (λ u. step m u x) h.1 ∙ sym (step_old t x h.0 ins),
     );
+    rests = λ s t x h ins. (rest_long n t x h.0, ap (λ u. at_rest m u x) h.1 ∙ sym (rest_old t x h.0 ins));
   }
 
   pub extends_same : m.own_registers ≤ length m.circuit.registers → Same m n
@@ -161,10 +215,10 @@ module _ (m n : MachineData) (good : IsMachine m) (e : Extends m n) where
       let inm : IsInputs m x0 = old_inputs m n e x0 ins in
       record {
         long = old_long m n e s1 f.long;
-        takes = λ r among. elim (below_or (length m.circuit.registers) r) [
+        takes = λ r among told. elim (below_or (length m.circuit.registers) r) [
           | inl below ↦
               take_get (length m.circuit.registers) s1 r below
-              ∙ (f.takes r among
+              ∙ (f.takes r among (followed_same r below ∙ told)
               ∙ (sym (take_get (length m.circuit.registers) (step n s0 x0) r below)
               ∙ ap (λ s. slice_get s r) (step_old s0 x0 long inm)))
           | inr past ↦
@@ -174,7 +228,7 @@ module _ (m n : MachineData) (good : IsMachine m) (e : Extends m n) where
         keeps = λ r off. elim (below_or (length m.circuit.registers) r) [
           | inl below ↦
               take_get (length m.circuit.registers) s1 r below
-              ∙ (f.keeps r (ap (load (values n s0 x0)) (e.enables r below) ∙ (load_same s0 x0 long inm r ∙ off))
+              ∙ (f.keeps r (ap (load (values n s0 x0)) (lasting_same r below) ∙ (load_lasting s0 x0 long inm r ∙ off))
               ∙ sym (take_get (length m.circuit.registers) s0 r below))
           | inr past ↦
               slice_get_past (old m s1) r (omega (arith, old_long m n e s1 f.long))

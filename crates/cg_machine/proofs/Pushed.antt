@@ -1,6 +1,6 @@
 -- A well-formed netlist with one more logic cell, or one more register, behind all others.
-use Rattle.std.proofs.Common.{◌≡◌, ◌≢◌, ◌⊎◌, ℕ, zero, suc, ◌-◌, ◌<◌, true, false, IsTrue, List, [], ◌∷◌, ◌++◌, length, slice_get}
-use Rattle.std.proofs.Common.{Some, nat_eq, ap, sym, ◌∙◌, subst, inl, inr, arith, append_assoc, get_or}
+use Rattle.std.proofs.Common.{◌≡◌, ◌≢◌, ◌⊎◌, ℕ, zero, suc, ◌+◌, ◌-◌, ◌<◌, true, false, IsTrue, List, [], ◌∷◌, ◌++◌, length, slice_get}
+use Rattle.std.proofs.Common.{Some, nat_eq, refl, ap, sym, ◌∙◌, subst, inl, inr, arith, append_assoc, get_or}
 use Rattle.std.specs.List.{All, AllPairs, IsDistinct, flat_map, slice_index}
 use Rattle.std.specs.Option.{option_to_list}
 use Rattle.std.proofs.lemmas.Bool.{both_ways, cases_lt, eq-eqb, false_from_ne_true, or_left}
@@ -11,14 +11,15 @@ use Rattle.std.proofs.lemmas.Option.{slice_get_within}
 use Rattle.cg_cell.specs.Name.{is_name}
 use Rattle.cg_netlist.specs.Circuit.{Circuit, LogicCell, RegisterCell, asked_nets, cell_nets, clock_nets, data_inputs}
 use Rattle.cg_net.specs.NetSets.{is_in}
-use Rattle.cg_netlist.specs.Circuit.{drivers, gater_outputs, given_nets, register_nets, shown_nets, used_nets}
+use Rattle.cg_netlist.specs.Circuit.{drivers, gater_outputs, given_nets, read_nets, register_nets, shown_nets, used_nets}
+use Rattle.cg_netlist.specs.Moment.{is_controlled}
 use Rattle.cg_netlist.specs.WellFormed.{IsDriven, IsOver, IsWellFormed, RegisterFits}
 use Rattle.cg_netlist.proofs.Given.{clock_given, distinct_cells, distinct_given, driver_within, given_driver, given_no_cell}
 use Rattle.cg_netlist.proofs.Given.{in_option, gater_given}
 use Rattle.cg_net.proofs.Members.{All-from_members, All-member, distinct_append, is_in_cases, is_in_left, is_in_right}
 use Rattle.cg_netlist.proofs.Solve.{greatest, greatest_bounds}
 use Rattle.cg_machine.specs.Added.{push_cell, push_register}
-use Rattle.cg_netlist.proofs.Used.{input_is_used}
+use Rattle.cg_netlist.proofs.Used.{control_is_used, input_is_used}
 use Rattle.cg_machine.proofs.Lists.{in_one, pairs_append}
 use Rattle.cg_netlist.proofs.SearchSteps.{push_cases}
 
@@ -65,7 +66,7 @@ module _ (c : Circuit) (good : IsWellFormed c) (name : List ℕ) (named : IsTrue
   asked = flat_map asked_nets c.gaters
 
   abbrev taken : List ℕ
-  taken = flat_map (λ r. r.inputs) c.registers
+  taken = flat_map (λ r. read_nets r) c.registers
 
   -- a net of a widened list of used nets
   used_split : (xs ys : List ℕ) (x : ℕ) → is_in ((ins ++ xs) ++ asked ++ (taken ++ ys) ++ c.outputs) x ≡ true → (is_in (used_nets c) x ≡ true) ⊎ (is_in (xs ++ ys) x ≡ true)
@@ -115,7 +116,7 @@ module _ (c : Circuit) (good : IsWellFormed c) (name : List ℕ) (named : IsTrue
     }
 
     abbrev top : ℕ
-    top = suc (greatest good.ranks)
+    top = suc (greatest good.ranks + greatest good.control_ranks)
 
     abbrev ranks : List ℕ
     ranks = good.ranks ++ top ∷ []
@@ -155,6 +156,19 @@ module _ (c : Circuit) (good : IsWellFormed c) (name : List ℕ) (named : IsTrue
       driven = driven;
       ranks = ranks;
       ranked = record { count = omega (arith, good.ranked.count, length-append good.ranks (top ∷ []), length-append c.cells (cell ∷ [])); rising = rising };
+      control_ranks = good.control_ranks;
+      forcing = record {
+        count = good.forcing.count;
+        after_cell = λ j k driver r j_at k_at among. elim (push_cases c.cells cell driver j j_at) [
+          | inl old ↦ let lower = good.forcing.after_cell j k driver r old k_at among in omega (arith, lower, rank_front j (slice_get_within c.cells j driver old))
+          | inr new ↦ absurd (no_loop driver.output (used_old driver.output (control_is_used c k driver.output r k_at among)) (ap (λ z. z.output) (sym new.1) ∙ output))
+        ];
+        before_cell = λ j k x r reader j_at k_at is shows among. elim (push_cases c.cells cell reader k k_at) [
+          | inl old ↦ let lower = good.forcing.before_cell j k x r reader j_at old is shows among in omega (arith, lower, rank_front k (slice_get_within c.cells k reader old))
+          | inr new ↦ omega (arith, greatest_bounds good.control_ranks j, rank_last k new.0)
+        ];
+        after_register = good.forcing.after_register;
+      };
       numbers = good.numbers;
       chained = record { count = good.chained.count; chained = good.chained.chained };
       clocked = good.clocked;
@@ -162,14 +176,15 @@ module _ (c : Circuit) (good : IsWellFormed c) (name : List ℕ) (named : IsTrue
     }
 
   -- one more register
-  module _ (r : RegisterCell ℕ ℕ) (shown : shown_nets r ≡ n ∷ []) (fits : RegisterFits r) (inputs : (x : ℕ) → is_in r.inputs x ≡ true → (x < n) × (is_in (clock_nets c) x ≡ false)) (on_clock : is_in (clock_nets c) r.clock ≡ true) where
+  module _ (r : RegisterCell ℕ ℕ) (shown : shown_nets r ≡ n ∷ []) (none : r.controls ≡ []) (free : is_controlled r.kind ≡ false) (fits : RegisterFits r) (inputs : (x : ℕ) → is_in r.inputs x ≡ true → (x < n) × (is_in (clock_nets c) x ≡ false)) (on_clock : is_in (clock_nets c) r.clock ≡ true) where
     abbrev e : Circuit
     e = push_register c name r
 
     taken_cases : (x : ℕ) → is_in (used_nets e) x ≡ true → (is_in (used_nets c) x ≡ true) ⊎ (is_in r.inputs x ≡ true)
     taken_cases x among =
         let is : used_nets e ≡ (ins ++ []) ++ asked ++ (taken ++ r.inputs) ++ c.outputs =
-        ap (λ xs. ins ++ asked ++ xs ++ c.outputs) (flat_map-append (λ r. r.inputs) c.registers (r ∷ []) ∙ ap (λ xs. taken ++ xs) (append-nil r.inputs))
+        ap (λ xs. ins ++ asked ++ xs ++ c.outputs) (flat_map-append (λ r. read_nets r) c.registers (r ∷ [])
+        ∙ ap (λ xs. taken ++ xs) (append-nil (read_nets r) ∙ (ap (λ xs. r.inputs ++ xs) none ∙ append-nil r.inputs)))
         ∙ ap (λ xs. xs ++ asked ++ (taken ++ r.inputs) ++ c.outputs) (sym (append-nil ins)) in
         used_split [] r.inputs x (sym (ap (λ xs. is_in xs x) is) ∙ among)
 
@@ -207,6 +222,12 @@ module _ (c : Circuit) (good : IsWellFormed c) (name : List ℕ) (named : IsTrue
       ]));
     }
 
+    number_front : (k : ℕ) (q : RegisterCell ℕ ℕ) → slice_get c.registers k ≡ Some q → slice_index (good.control_ranks ++ 0 ∷ []) k ≡ slice_index good.control_ranks k
+    number_front k q at = get_or_append_left good.control_ranks (0 ∷ []) 0 k (omega (arith, slice_get_within c.registers k q at, good.forcing.count))
+
+    asks_none : (q : RegisterCell ℕ ℕ) (x : ℕ) → r ≡ q → is_in q.controls x ≡ true → ⊥
+    asks_none q x same among = both_ways false refl (ap (λ xs. is_in xs x) (sym none ∙ ap (λ (s : RegisterCell ℕ ℕ). s.controls) same) ∙ among)
+
     pub register_pushed : IsWellFormed e
     register_pushed = record {
       model = good.model;
@@ -219,6 +240,25 @@ module _ (c : Circuit) (good : IsWellFormed c) (name : List ℕ) (named : IsTrue
       driven = driven_with;
       ranks = good.ranks;
       ranked = good.ranked;
+      control_ranks = good.control_ranks ++ 0 ∷ [];
+      forcing = record {
+        count = omega (arith, good.forcing.count, length-append good.control_ranks (0 ∷ []), length-append c.registers (r ∷ []));
+        after_cell = λ j k cell q j_at k_at among. elim (push_cases c.registers r q k k_at) [
+          | inl old ↦ let lower = good.forcing.after_cell j k cell q j_at old among in omega (arith, lower, number_front k q old)
+          | inr new ↦ absurd (asks_none q cell.output new.1 among)
+        ];
+        before_cell = λ j k x q cell j_at k_at is shows among. elim (push_cases c.registers r q j j_at) [
+          | inl old ↦ let lower = good.forcing.before_cell j k x q cell old k_at is shows among in omega (arith, lower, number_front j q old)
+          | inr new ↦ absurd (both_ways (is_controlled q.kind) (ap (λ (s : RegisterCell ℕ ℕ). is_controlled s.kind) (sym new.1) ∙ free) is)
+        ];
+        after_register = λ j k x driver q j_at k_at is shows among. elim (push_cases c.registers r driver j j_at) [
+          | inr new ↦ absurd (both_ways (is_controlled driver.kind) (ap (λ (s : RegisterCell ℕ ℕ). is_controlled s.kind) (sym new.1) ∙ free) is)
+          | inl j_old ↦ elim (push_cases c.registers r q k k_at) [
+            | inl k_old ↦ let lower = good.forcing.after_register j k x driver q j_old k_old is shows among in omega (arith, lower, number_front j driver j_old, number_front k q k_old)
+            | inr new ↦ absurd (asks_none q x new.1 among)
+          ]
+        ];
+      };
       numbers = good.numbers;
       chained = record { count = good.chained.count; chained = good.chained.chained };
       clocked = All-append (λ s. is_in (clock_nets c) s.clock ≡ true) c.registers (r ∷ []) good.clocked (All-cons (λ s. is_in (clock_nets c) s.clock ≡ true) r [] on_clock (All-nil (λ s. is_in (clock_nets c) s.clock ≡ true)));

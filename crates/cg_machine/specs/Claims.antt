@@ -1,11 +1,11 @@
 -- What is claimed of a machine before registers get an enable, over all states and inputs: the hold condition of
 -- clock gating by observation of a register itself, and the conditions of stability and of unobservability over two
 -- cycles, as the literature on sequential clock gating has them.
-use Rattle.std.specs.Prelude.{◌≡◌, ℕ, Bool, true, false, not, if◌then◌else◌, List, [], ◌∷◌, map, length, slice_get}
+use Rattle.std.specs.Prelude.{◌≡◌, ℕ, Bool, true, false, not, ◌&&◌, ◌||◌, Option, None, is_none, if◌then◌else◌, List, [], ◌∷◌, map, length, slice_get}
 use Rattle.cg_cell.specs.Gates.{any_of}
 use Rattle.cg_net.specs.NetSets.{is_in}
 use Rattle.cg_netlist.specs.Moment.{bit}
-use Rattle.cg_machine.specs.Machine.{MachineData, IsState, IsInputs, enable_of, each_register, load, next, step, values}
+use Rattle.cg_machine.specs.Machine.{MachineData, IsState, IsInputs, enable_of, each_register, has_controls, load, next, step, values}
 
 -- a literal: a net, and whether it is inverted
 abbrev pub Literal : Type 0
@@ -18,12 +18,20 @@ literal_bit nets l = if l.1 then not (nets l.0) else nets l.0
 abbrev pub any_at : List Bool → List Literal → Bool
 any_at nets E = any_of (map (literal_bit (bit nets)) E)
 
--- s1 may follow the cycle (s0, x0) for all that is asked: the registers of C hold their next bits, and those that are
--- not loaded keep theirs; nothing is said of the others
+-- the enable that alone decides whether a register keeps its bit until the next cycle; where it has controls, none does
+abbrev pub lasting_enable : MachineData → ℕ → Option ℕ
+lasting_enable m r = if has_controls m r then None else enable_of m r
+
+-- whether anything is said of what a register takes: of one with controls and an enable nothing is
+abbrev pub is_followed : MachineData → ℕ → Bool
+is_followed m r = not (has_controls m r) || is_none (enable_of m r)
+
+-- s1 may follow the cycle (s0, x0) for all that is asked: the registers of C that are followed hold their next bits, and those without
+-- controls that are not loaded keep theirs; nothing is asked of the others
 pub record Follows (m : MachineData) (C : List ℕ) (s0 x0 s1 : List Bool) : Type 0 where
   pub long : IsState m s1
-  pub takes : (r : ℕ) → is_in C r ≡ true → slice_get s1 r ≡ slice_get (step m s0 x0) r
-  pub keeps : (r : ℕ) → load (values m s0 x0) (enable_of m r) ≡ false → slice_get s1 r ≡ slice_get s0 r
+  pub takes : (r : ℕ) → is_in C r ≡ true → is_followed m r ≡ true → slice_get s1 r ≡ slice_get (step m s0 x0) r
+  pub keeps : (r : ℕ) → load (values m s0 x0) (lasting_enable m r) ≡ false → slice_get s1 r ≡ slice_get s0 r
 
 -- t is s outside the registers of G
 pub record EqualOutside (G : List ℕ) (s t : List Bool) : Type 0 where
@@ -66,7 +74,8 @@ pub record CanIdle (m : MachineData) (E : List Literal) : Type 0 where
 
 -- the state after a cycle, with free bits at the registers that `Follows` says nothing of
 abbrev pub followed_bit : MachineData → List ℕ → List Bool → List Bool → List Bool → ℕ → Bool
-followed_bit m C nets s0 free r = if is_in C r then next m nets s0 r else if load nets (enable_of m r) then bit free r else bit s0 r
+followed_bit m C nets s0 free r =
+    if is_in C r && is_followed m r then next m nets s0 r else if load nets (lasting_enable m r) then bit free r else bit s0 r
 
 abbrev pub followed : MachineData → List ℕ → List Bool → List Bool → List Bool → List Bool
 followed m C s0 x0 free = each_register m (followed_bit m C (values m s0 x0) s0 free)

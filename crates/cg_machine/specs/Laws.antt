@@ -3,12 +3,17 @@ use Rattle.std.specs.Prelude.{◌≡◌, ◌<◌, ℕ, Bool, false, List, [], ma
 use Rattle.cg_cell.specs.declared.fit.FitKind.{FitKind}
 use Rattle.cg_netlist.specs.Circuit.{Circuit}
 use Rattle.cg_netlist.specs.History.{IsLawful, IsStart, IsWaveform, Moment, Tick, outputs_of}
-use Rattle.cg_netlist.specs.Moment.{Settles}
+use Rattle.cg_netlist.specs.Moment.{forced_state, Settles}
 use Rattle.cg_machine.specs.Added.{add_delay, add_gate, delay_limit, gate_limit, set_enable}
 use Rattle.cg_machine.specs.Extends.{Extends, GateFits, HasDelay, HasGate}
-use Rattle.cg_machine.specs.Machine.{IsInputs, IsMachine, IsNet, IsState, MachineData, values}
+use Rattle.cg_machine.specs.Machine.{at_rest, has_controls, IsInputs, IsMachine, IsNet, IsState, MachineData, values}
 use Rattle.cg_machine.specs.Run.{Same, shown_from, states_from}
 use Rattle.cg_machine.specs.Start.{CanStart, machine_of}
+
+-- the state at rest is forced by its own nets, and is the only one that is
+pub record IsRest (m : MachineData) (held inputs : List Bool) : Type 0 where
+  pub fixed : at_rest m held inputs ≡ forced_state m.circuit (values m (at_rest m held inputs) inputs) held
+  pub once : (state : List Bool) → state ≡ forced_state m.circuit (values m state inputs) held → state ≡ at_rest m held inputs
 
 -- the bits of a machine's nets settle, and no others do
 abbrev pub ValuesSettle : Type 0
@@ -18,6 +23,15 @@ ValuesSettle = (m : MachineData) → IsMachine m → (state inputs : List Bool) 
 abbrev pub ValuesAreAll : Type 0
 ValuesAreAll = (m : MachineData) → IsMachine m → (state inputs nets : List Bool) → Settles m.circuit false inputs state [] nets →
     nets ≡ values m state inputs
+
+-- from what the registers would hold there is one state at rest
+abbrev pub RestIsOne : Type 0
+RestIsOne = (m : MachineData) → IsMachine m → (held inputs : List Bool) → IsState m held → IsInputs m inputs → IsRest m held inputs
+
+-- where no register has controls, a machine is at rest in every state
+abbrev pub UnforcedRests : Type 0
+UnforcedRests = (m : MachineData) → ((r : ℕ) → has_controls m r ≡ false) → (state inputs : List Bool) → IsState m state →
+    at_rest m state inputs ≡ state
 
 -- a gate and a delay register that pass no limit are there, found again or appended, in a machine that keeps what it had
 abbrev pub GateIsThere : Type 0

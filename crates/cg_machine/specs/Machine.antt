@@ -1,15 +1,15 @@
 -- Machines: a netlist without gating cells as a map from cycle to cycle, with an enable for some registers.
-use Rattle.std.specs.Prelude.{◌≡◌, ◌≢◌, ◌<◌, ◌≤◌, IsTrue, ℕ, ◌+◌, ◌-◌, ◌^◌, nat_eq, Bool, true, false, if◌then◌else◌, List, [], ◌∷◌}
+use Rattle.std.specs.Prelude.{◌≡◌, ◌≢◌, ◌<◌, ◌≤◌, IsTrue, ℕ, zero, suc, ◌+◌, ◌-◌, ◌^◌, nat_eq, Bool, true, false, if◌then◌else◌, List, [], ◌∷◌}
 use Rattle.std.specs.Prelude.{◌++◌, map, length, slice_get, take, Option, Some, None}
 use Rattle.std.specs.List.{All, IsDistinct, range_with_len}
 use Rattle.std.specs.Fmt.{decimal}
-use Rattle.std.specs.Option.{option_flatten}
+use Rattle.std.specs.Option.{option_flatten, option_map_or}
 use Rattle.cg_cell.specs.Name.{is_name}
 use Rattle.cg_limit.specs.declared.TheConstants.{MOST_NETS, MOST_REGISTERS}
 use Rattle.cg_netlist.specs.Circuit.{Circuit, LogicCell, RegisterCell, data_inputs}
 use Rattle.cg_netlist.specs.declared.parts.RegisterKind.TheVariants.{Plain}
 use Rattle.cg_netlist.specs.History.{next_value}
-use Rattle.cg_netlist.specs.Moment.{bit, values_at}
+use Rattle.cg_netlist.specs.Moment.{bit, forced_state, is_controlled, values_at}
 use Rattle.cg_netlist.specs.Nets.{IsWalk, nets_of, walk_order}
 use Rattle.cg_netlist.specs.WellFormed.{IsWellFormed}
 use Rattle.cg_machine.specs.Gates.{AddedGate, HasInputs, gate_cell}
@@ -69,6 +69,21 @@ each_register m f = map f (range_with_len 0 (length m.circuit.registers))
 abbrev pub step : MachineData → List Bool → List Bool → List Bool
 step m state inputs = each_register m (next m (values m state inputs) state)
 
+-- whether a register has controls
+abbrev pub has_controls : MachineData → ℕ → Bool
+has_controls m r = option_map_or (λ cell. is_controlled cell.kind) (slice_get m.circuit.registers r) false
+
+-- the state that the nets of a cycle force, again and again from the bits that the registers would hold: each control has its say
+-- over the controls behind it
+abbrev pub forced_after : MachineData → List Bool → List Bool → ℕ → List Bool
+forced_after m held inputs zero = held
+forced_after m held inputs (suc n) = forced_state m.circuit (values m (forced_after m held inputs n) inputs) held
+
+-- the state at rest: the one that its own nets force from the bits that the registers would hold. It is made by forcing as often as
+-- there are registers, and the laws say that there is no other.
+abbrev pub at_rest : MachineData → List Bool → List Bool → List Bool
+at_rest m held inputs = forced_after m held inputs (length m.circuit.registers)
+
 -- the bits of the outputs in a cycle
 abbrev pub outputs_at : MachineData → List Bool → List Bool → List Bool
 outputs_at m state inputs = values_at (values m state inputs) m.circuit.outputs
@@ -84,7 +99,7 @@ added_name m k = m.prefix ++ decimal k
 -- a delay register of a net: it is plain, starts with 1, and its one output shows its bit
 abbrev pub delay_cell : ℕ → ℕ → ℕ → RegisterCell ℕ ℕ
 delay_cell clock net output =
-    record { inputs = net ∷ []; outputs = (output, false) ∷ []; pins = 0 ∷ []; clock = clock; kind = Plain; init = 1 }
+    record { inputs = net ∷ []; controls = []; outputs = (output, false) ∷ []; pins = 0 ∷ []; clock = clock; kind = Plain; init = 1 }
 
 -- a register of a machine is a delay register, on the netlist's clock and without an enable
 pub record IsDelay (m : MachineData) (r : ℕ) (cell : RegisterCell ℕ ℕ) : Type 0 where

@@ -3,12 +3,14 @@ use Rattle.std.specs.Prelude.{◌≡◌, ℕ, ◌-◌, Bool, true, not, ◌&&◌
 use Rattle.std.specs.Prelude.{Option, Some, None}
 use Rattle.cg_netlist.specs.Circuit.{data_inputs}
 use Rattle.cg_netlist.specs.History.{AreTicks, Tick}
-use Rattle.cg_machine.specs.Machine.{IsInputs, MachineData, outputs_at, step}
+use Rattle.cg_machine.specs.Machine.{IsInputs, MachineData, at_rest, outputs_at, step}
 
--- the state at a moment, from the tick and the state of the moment before: a cycle later where the clock rises
+-- the state at a moment, from the tick and the state of the moment before: a cycle later where the clock rises, and then at rest with
+-- the inputs of this moment
 abbrev pub state_now : MachineData → Option Tick → List Bool → Tick → List Bool
-state_now m None state tick = state
-state_now m (Some before) state tick = if not before.clock && tick.clock then step m state before.inputs else state
+state_now m None state tick = at_rest m state tick.inputs
+state_now m (Some before) state tick =
+    at_rest m (if not before.clock && tick.clock then step m state before.inputs else state) tick.inputs
 
 -- the run from a state: the state of each moment, and the bits of the outputs at each moment
 abbrev pub states_from : MachineData → Option Tick → List Bool → List Tick → List (List Bool)
@@ -35,10 +37,11 @@ pub record Same (m n : MachineData) : Type 0 where
   pub shows : (start : List Bool) (wave : List Tick) → length start ≡ m.own_registers → AreTicks m.circuit wave →
       shown n start wave ≡ shown m start wave
 
--- a relation of the states of two machines that their steps keep, and at which they show the same
+-- a relation of the states of two machines that a step keeps in both, and coming to rest too, and at which they show the same
 pub record Simulates (m n : MachineData) (R : List Bool → List Bool → Type 0) : Type 0 where
   pub shows : (s t x : List Bool) → R s t → IsInputs m x → outputs_at n t x ≡ outputs_at m s x
   pub steps : (s t x : List Bool) → R s t → IsInputs m x → R (step m s x) (step n t x)
+  pub rests : (s t x : List Bool) → R s t → IsInputs m x → R (at_rest m s x) (at_rest n t x)
 
 -- the machine with these enables
 abbrev pub with_enables : MachineData → List (Option ℕ) → MachineData
@@ -54,9 +57,9 @@ test_step m test state inputs = if test then step (freed m) state inputs else st
 
 -- The test run: the run over a waveform and a test bit beside each of its moments.
 abbrev pub test_state_now : MachineData → Option (Tick × Bool) → List Bool → Tick → List Bool
-test_state_now m None state tick = state
+test_state_now m None state tick = at_rest m state tick.inputs
 test_state_now m (Some before) state tick =
-    if not before.0.clock && tick.clock then test_step m before.1 state before.0.inputs else state
+    at_rest m (if not before.0.clock && tick.clock then test_step m before.1 state before.0.inputs else state) tick.inputs
 
 abbrev pub test_states_from : MachineData → Option (Tick × Bool) → List Bool → List (Tick × Bool) → List (List Bool)
 test_states_from m before state [] = []

@@ -12,7 +12,8 @@ ghost use Rattle.cg_machine.specs.Added.{Added, HasNames, added_place, delay_ans
 ghost use Rattle.cg_machine.specs.Added.{nets_limit, own_netlist, push_delay, push_gate, registers_limit, set_enable};
 ghost use Rattle.cg_machine.specs.Extends.{GateFits, HasDelay, HasGate};
 ghost use Rattle.cg_machine.specs.Gates.{HasInputs};
-ghost use Rattle.cg_machine.specs.Machine.{IsMachine, IsNet, delay_cell, enable_of};
+ghost use Rattle.cg_machine.specs.Machine.{IsMachine, IsNet, delay_cell, enable_of, has_controls};
+ghost use Rattle.cg_machine.specs.Claims.{lasting_enable};
 ghost use Rattle.cg_machine.specs.Start.{CanStart, first_clash, machine_of};
 ghost use Rattle.cg_machine.specs.declared.view.GateView.{GateView};
 ghost use Rattle.cg_machine.specs.View.{gate_seen};
@@ -136,6 +137,30 @@ impl Machine {
         match self.enables.get(reg.number() as usize) {
             Some(enable) => *enable,
             None => None,
+        }
+    }
+
+    /// Whether a register has a clear or a preset; no delay register has.
+    pub fn has_controls(&self, reg: RegId) -> bool
+        requires { reg < length self.now.circuit.registers }
+        ensures { result ≡ has_controls self.now reg }
+    {
+        let netlist = self.netlist();
+        if self.is_delay(reg) {
+            return false;
+        }
+        netlist.has_controls(reg)
+    }
+
+    /// The enable that alone decides whether a register keeps its bit until the next cycle: `None` where it has controls.
+    pub fn lasting_enable(&self, reg: RegId) -> Option<NetId>
+        requires { reg < length self.now.circuit.registers }
+        ensures { result ≡ lasting_enable self.now reg }
+    {
+        if self.has_controls(reg) {
+            None
+        } else {
+            self.enable(reg)
         }
     }
 

@@ -2,23 +2,23 @@
 -- the gated clock rises, and the latch of the gating cell does not see the enable while the clock is high. The netlist
 -- is well formed, so that this history is the only one that is lawful over this waveform.
 use Rattle.std.proofs.Common.{◌≡◌, ◌≢◌, ◌⊎◌, ℕ, zero, suc, ◌<◌, Bool, true, false, not, ◌||◌, IsTrue, List, [], ◌∷◌, length}
-use Rattle.std.proofs.Common.{slice_get, slice_index, None, Some, nat_eq, codes, refl, ap, subst, inl, inr, arith}
+use Rattle.std.proofs.Common.{slice_get, slice_index, None, Some, nat_eq, codes, refl, ap, subst, inl, inr, arith, ◌∙◌}
 use Rattle.std.specs.List.{AllPairs, IsDistinct, count_by}
 use Rattle.std.specs.List.Sorted.{IsStrictlyIncreasing}
-use Rattle.std.specs.Option.{option_map, option_to_list}
+use Rattle.std.specs.Option.{option_map, option_map_or, option_to_list}
 use Rattle.std.proofs.Math.Dec.{lit≤, lit<}
 use Rattle.std.proofs.lemmas.Bool.{eqb-true, or_cases, both_ways}
 use Rattle.std.proofs.lemmas.List.Elements.{All-from_recursion, All-nil}
 use Rattle.std.proofs.lemmas.Map.Made.{AllPairs-from_IsDistinct}
 use Rattle.std.proofs.lemmas.Slice.Eq.{bytes_eq-Decides}
 use Rattle.cg_cell.specs.Name.{is_name}
-use Rattle.cg_cell.specs.Cell.{CellData, IsCell}
+use Rattle.cg_cell.specs.Cell.{CellData, IsCell, IsControl, no_control}
 use Rattle.cg_cell.specs.Pins.{is_test}
 use Rattle.cg_cell.specs.Term.{Input}
 use Rattle.cg_cell.specs.declared.cell.CellKind.TheVariants.{Flop as FlopKind, Gater as GaterKind}
 use Rattle.cg_cell.specs.declared.cell.Role.TheVariants.{Data, Clock, Enable, Output, State, StateBar}
 use Rattle.cg_netlist.specs.declared.parts.RegisterKind.TheVariants.{Flop}
-use Rattle.cg_netlist.specs.Circuit.{Circuit, GatingCell, clock_nets, used_nets}
+use Rattle.cg_netlist.specs.Circuit.{Circuit, GatingCell, RegisterCell, clock_nets, used_nets}
 use Rattle.cg_net.specs.NetSets.{is_in}
 use Rattle.cg_netlist.specs.WellFormed.{IsInNetOrder, IsWellFormed, IsOver, RegisterFits}
 use Rattle.cg_netlist.specs.Moment.{Settles}
@@ -27,10 +27,10 @@ use Rattle.cg_netlist.proofs.Histories.{has_one_history}
 use Rattle.cg_netlist.specs.History.{Tick, Moment, IsLawful, IsWaveform, outputs_of, edges}
 
 abbrev flop : CellData
-flop = record { name = codes "DFF"; kind = FlopKind; pins = record { name = codes "D"; role = Data } ∷ record { name = codes "CK"; role = Clock } ∷ record { name = codes "Q"; role = State } ∷ record { name = codes "QN"; role = StateBar } ∷ []; function = Some (Input 0) }
+flop = record { name = codes "DFF"; kind = FlopKind; pins = record { name = codes "D"; role = Data } ∷ record { name = codes "CK"; role = Clock } ∷ record { name = codes "Q"; role = State } ∷ record { name = codes "QN"; role = StateBar } ∷ []; function = Some (Input 0); control = no_control }
 
 abbrev icg : CellData
-icg = record { name = codes "ICG"; kind = GaterKind; pins = record { name = codes "CK"; role = Clock } ∷ record { name = codes "E"; role = Enable } ∷ record { name = codes "GCK"; role = Output } ∷ []; function = None }
+icg = record { name = codes "ICG"; kind = GaterKind; pins = record { name = codes "CK"; role = Clock } ∷ record { name = codes "E"; role = Enable } ∷ record { name = codes "GCK"; role = Output } ∷ []; function = None; control = no_control }
 
 -- nets: 0 d, 1 en, 2 clk, 3 gck, 4 q, 5 qn
 abbrev gated : Circuit
@@ -42,13 +42,16 @@ gated = record {
   outputs = 4 ∷ 5 ∷ [];
   cells = [];
   gaters = record { clock = 2; enable = 1; test = None; output = 3; cell = icg } ∷ [];
-  registers = record { inputs = 0 ∷ []; outputs = (4, false) ∷ (5, true) ∷ []; pins = 2 ∷ 3 ∷ []; clock = 3; kind = Flop flop; init = 3 } ∷ [];
+  registers = record { inputs = 0 ∷ []; controls = []; outputs = (4, false) ∷ (5, true) ∷ []; pins = 2 ∷ 3 ∷ []; clock = 3; kind = Flop flop; init = 3 } ∷ [];
 }
 
 in_order : IsInNetOrder gated
 in_order = refl
 
 -- the cells are cells, and the netlist is well formed
+uncontrolled : IsControl 0 no_control
+uncontrolled = record { clear = refl; preset = refl; clear_reads = refl; preset_reads = refl; named = tt; both = refl }
+
 flop_is : IsCell flop
 flop_is = record {
   named = refl;
@@ -58,6 +61,9 @@ flop_is = record {
   unsplit = (refl, (refl, (refl, (refl, tt))));
   roles = record { clock = refl; state = lit≤ tt; only = (refl, (refl, (refl, (refl, tt)))) };
   computes = refl;
+  shared = (refl, (refl, (refl, (refl, tt))));
+  controls = uncontrolled;
+  forces = tt;
 }
 
 icg_is : IsCell icg
@@ -69,6 +75,9 @@ icg_is = record {
   unsplit = (refl, (refl, (refl, tt)));
   roles = record { clock = refl; enable = refl; output = refl; test = lit≤ tt; only = (refl, (refl, (refl, tt))) };
   computes = tt;
+  shared = (refl, (refl, (refl, tt)));
+  controls = uncontrolled;
+  forces = refl;
 }
 
 different : AllPairs (λ name other. name ≢ other) gated.names
@@ -80,9 +89,12 @@ rising_pins : IsStrictlyIncreasing (2 ∷ 3 ∷ [])
 rising_pins zero below = lit< tt
 rising_pins (suc k) below = absurd (omega arith)
 
-fitting : RegisterFits {N = ℕ} {K = ℕ} (record { inputs = 0 ∷ []; outputs = (4, false) ∷ (5, true) ∷ []; pins = 2 ∷ 3 ∷ []; clock = 3; kind = Flop flop; init = 3 })
+unshared : {A : Type 0} → false ≡ true → A
+unshared is = absurd (both_ways false refl is)
+
+fitting : RegisterFits {N = ℕ} {K = ℕ} (record { inputs = 0 ∷ []; controls = []; outputs = (4, false) ∷ (5, true) ∷ []; pins = 2 ∷ 3 ∷ []; clock = 3; kind = Flop flop; init = 3 })
 fitting = record {
-  kind = (flop_is, refl, refl, lit≤ tt, ((record { name = codes "Q"; role = State }, refl, refl), ((record { name = codes "QN"; role = StateBar }, refl, refl), tt)), rising_pins);
+  kind = (flop_is, refl, refl, refl, (unshared, (unshared, (unshared, (unshared, tt)))), lit≤ tt, ((record { name = codes "Q"; role = State }, refl, refl), ((record { name = codes "QN"; role = StateBar }, refl, refl), tt)), rising_pins);
   pins = refl;
   init = lit≤ tt;
 }
@@ -97,6 +109,10 @@ apart net among = elim (or_cases (nat_eq net 2) (nat_eq net 3 || false) among) [
   | inr later ↦ elim (or_cases (nat_eq net 3) false later) [ inl gck ↦ ap (is_in (used_nets gated)) (eqb-true net 3 gck) | inr none ↦ absurd (both_ways false refl none) ]
 ]
 
+no_controls : {A : Type 0} (k x : ℕ) (r : RegisterCell ℕ ℕ) → slice_get gated.registers k ≡ Some r → is_in r.controls x ≡ true → A
+no_controls zero x r to among = absurd (both_ways false refl (ap (λ o. option_map_or (λ (q : RegisterCell ℕ ℕ). is_in q.controls x) o true) to ∙ among))
+no_controls (suc k) x r to among = absurd (cc)
+
 well_formed : IsWellFormed gated
 well_formed = record {
   model = refl;
@@ -109,6 +125,8 @@ well_formed = record {
   driven = driven_in_order gated in_order;
   ranks = [];
   ranked = record { count = refl; rising = λ j k driver cell here there among. absurd (cc) };
+  control_ranks = 0 ∷ [];
+  forcing = record { count = refl; after_cell = λ j k cell r at to among. absurd (cc); before_cell = λ j k x r cell at to is shows among. absurd (cc); after_register = λ j k x driver r at to is shows among. no_controls k x r to among };
   numbers = 0 ∷ [];
   chained = record { count = refl; chained = chained };
   clocked = All-from_recursion (λ r. is_in (clock_nets gated) r.clock ≡ true) gated.registers (refl, tt);

@@ -7,7 +7,7 @@ use Rattle.std.proofs.lemmas.Bool.{both_ways, cases_Bool, or_cases, or_left, or_
 use Rattle.std.proofs.lemmas.List.{map-append, map-id, length-map}
 use Rattle.std.proofs.lemmas.List.FromFn.{fill_by_all}
 use Rattle.std.proofs.lemmas.Option.{get_or_from_slice_get, same_Some, slice_get-map, slice_get-get_or}
-use Rattle.cg_netlist.specs.Circuit.{LogicCell, RegisterCell, shown_nets}
+use Rattle.cg_netlist.specs.Circuit.{LogicCell, RegisterCell, read_nets, shown_nets}
 use Rattle.cg_net.specs.NetSets.{is_in}
 use Rattle.cg_netlist.specs.Wiring.{map_cell, map_register}
 use Rattle.cg_net.proofs.Members.{distinct_head, distinct_tail, member_at}
@@ -47,7 +47,7 @@ pub inputs_renumbered : (f : ℕ → ℕ) (cells : List (LogicCell ℕ)) → fla
 inputs_renumbered f [] = refl
 inputs_renumbered f (cell ∷ cells) = ap (λ xs. map f cell.inputs ++ xs) (inputs_renumbered f cells) ∙ sym (map-append f cell.inputs (flat_map (λ c. c.inputs) cells))
 
-shown_renumbered : (f : ℕ → ℕ) (outputs : List (ℕ × Bool)) → map {A = ℕ × Bool} (λ output. output.0) (map (λ output. (f output.0, output.1)) outputs) ≡ map f (map (λ output. output.0) outputs)
+pub shown_renumbered : (f : ℕ → ℕ) (outputs : List (ℕ × Bool)) → map {A = ℕ × Bool} (λ output. output.0) (map (λ output. (f output.0, output.1)) outputs) ≡ map f (map (λ output. output.0) outputs)
 shown_renumbered f [] = refl
 shown_renumbered f (output ∷ outputs) = ap (λ xs. f output.0 ∷ xs) (shown_renumbered f outputs)
 
@@ -55,9 +55,11 @@ pub registers_renumbered : (f : ℕ → ℕ) (registers : List (RegisterCell ℕ
 registers_renumbered f [] = refl
 registers_renumbered f (r ∷ rs) = ap (λ xs. xs ++ flat_map shown_nets (map (map_register f) rs)) (shown_renumbered f r.outputs) ∙ (ap (λ xs. map f (shown_nets r) ++ xs) (registers_renumbered f rs) ∙ sym (map-append f (shown_nets r) (flat_map shown_nets rs)))
 
-pub data_renumbered : (f : ℕ → ℕ) (registers : List (RegisterCell ℕ ℕ)) → flat_map (λ r. r.inputs) (map (map_register f) registers) ≡ map f (flat_map (λ r. r.inputs) registers)
-data_renumbered f [] = refl
-data_renumbered f (r ∷ rs) = ap (λ xs. map f r.inputs ++ xs) (data_renumbered f rs) ∙ sym (map-append f r.inputs (flat_map (λ s. s.inputs) rs))
+pub reads_renumbered : (f : ℕ → ℕ) (registers : List (RegisterCell ℕ ℕ)) → flat_map (λ r. read_nets r) (map (map_register f) registers) ≡ map f (flat_map (λ r. read_nets r) registers)
+reads_renumbered f [] = refl
+reads_renumbered f (r ∷ rs) =
+    ap (λ xs. xs ++ flat_map (λ s. read_nets s) (map (map_register f) rs)) (sym (map-append f r.inputs r.controls))
+    ∙ (ap (λ xs. map f (read_nets r) ++ xs) (reads_renumbered f rs) ∙ sym (map-append f (read_nets r) (flat_map (λ s. read_nets s) rs)))
 
 -- in an order in which no net stands twice, the places of its nets are 0, 1, and so on
 pub places_in_order : (order : List ℕ) → IsDistinct nat_eq order → map (λ net. position_or_len (nat_eq net) order) order ≡ range_with_len 0 (length order)

@@ -15,9 +15,11 @@ use Rattle.cg_cell.specs.declared.cell.CellKind.TheVariants.{Gater as GaterKind}
 use Rattle.cg_net.specs.Names.{net_name}
 use Rattle.cg_netlist.specs.Circuit.{Circuit, GatingCell, LogicCell, asked_nets, cell_nets, clock_nets, data_inputs}
 use Rattle.cg_net.specs.NetSets.{is_in}
-use Rattle.cg_netlist.specs.Circuit.{gater_outputs, given_nets, net_order, register_nets, used_nets}
+use Rattle.cg_netlist.specs.Circuit.{RegisterCell, gater_outputs, given_nets, net_order, read_nets, register_nets, shown_nets, used_nets}
+use Rattle.cg_netlist.specs.Moment.{is_controlled}
+use Rattle.cg_netlist.proofs.Used.{control_is_used, shown_is_driven}
 use Rattle.cg_netlist.specs.Wiring.{map_cell, map_gater, map_register}
-use Rattle.cg_netlist.specs.WellFormed.{AreRanks, IsInNetOrder, IsOver, IsWellFormed, RegisterFits}
+use Rattle.cg_netlist.specs.WellFormed.{AreControlRanks, AreRanks, IsInNetOrder, IsOver, IsWellFormed, RegisterFits}
 use Rattle.cg_netlist.proofs.Driven.{driven_in_order}
 use Rattle.cg_net.proofs.DifferentNames.{same_net}
 use Rattle.cg_net.proofs.TableLemmas.{mapped_at}
@@ -27,7 +29,8 @@ use Rattle.cg_netlist.proofs.Given.{given_no_cell, in_option, register_given, ga
 use Rattle.cg_netlist.proofs.Given.{Shown}
 use Rattle.cg_net.proofs.Members.{All-from_members, All-member, distinct_apart, distinct_append, distinct_left, distinct_right}
 use Rattle.cg_net.proofs.Members.{is_in_cases, is_in_left, is_in_right, member_at, one_place}
-use Rattle.cg_netlist.proofs.NetOrder.{data_renumbered, from_mapped, in_mapped, inputs_renumbered, outputs_renumbered}
+use Rattle.cg_netlist.proofs.NetOrder.{reads_renumbered, shown_renumbered}
+use Rattle.cg_netlist.proofs.NetOrder.{from_mapped, in_mapped, inputs_renumbered, outputs_renumbered}
 use Rattle.cg_netlist.proofs.NetOrder.{places_in_order, registers_renumbered}
 use Rattle.cg_netlist.proofs.Values.{at_map}
 use Rattle.cg_netlist.specs.Ordered.{ordered, place_in, with_numbers}
@@ -68,10 +71,10 @@ pub used_is : (f : ℕ → ℕ) (names : List (List ℕ)) (c : Circuit) → used
 used_is f names c =
     let a = flat_map (λ cell. cell.inputs) c.cells in
     let b = flat_map asked_nets c.gaters in
-    let d = flat_map (λ r. r.inputs) c.registers in
-    ap (λ xs. xs ++ flat_map asked_nets (map (map_gater f) c.gaters) ++ flat_map (λ r. r.inputs) (map (map_register f) c.registers) ++ map f c.outputs) (inputs_renumbered f c.cells)
-    ∙ (ap (λ xs. map f a ++ xs ++ flat_map (λ r. r.inputs) (map (map_register f) c.registers) ++ map f c.outputs) (asked_renumbered f c.gaters)
-    ∙ (ap (λ xs. map f a ++ map f b ++ xs ++ map f c.outputs) (data_renumbered f c.registers)
+    let d = flat_map (λ (r : RegisterCell ℕ ℕ). read_nets r) c.registers in
+    ap (λ xs. xs ++ flat_map asked_nets (map (map_gater f) c.gaters) ++ flat_map (λ r. read_nets r) (map (map_register f) c.registers) ++ map f c.outputs) (inputs_renumbered f c.cells)
+    ∙ (ap (λ xs. map f a ++ xs ++ flat_map (λ r. read_nets r) (map (map_register f) c.registers) ++ map f c.outputs) (asked_renumbered f c.gaters)
+    ∙ (ap (λ xs. map f a ++ map f b ++ xs ++ map f c.outputs) (reads_renumbered f c.registers)
     ∙ sym (four_mapped f a b d c.outputs)))
 
 pub clock_nets_is : (f : ℕ → ℕ) (names : List (List ℕ)) (c : Circuit) → clock_nets (with_numbers f names c) ≡ map f (clock_nets c)
@@ -329,6 +332,44 @@ module _ (c : Circuit) (good : IsWellFormed c) (inputs_once : IsDistinct nat_eq 
         good.ranked.rising j k old_j.0 old_k.0 old_j.1 old_k.1 (ap (is_in old_k.0.inputs) (sym same) ∙ found.1);
   }
 
+  -- a net is among renumbered ones where another one is among others, and they get one number
+  same_mapped : (xs ys : List ℕ) (x : ℕ) → is_in (map f xs) x ≡ true → is_in (map f ys) x ≡ true → ((y : ℕ) → is_in xs y ≡ true → y < n) → ((y : ℕ) → is_in ys y ≡ true → y < n) → (z : ℕ) × (is_in xs z ≡ true) × (is_in ys z ≡ true)
+  same_mapped xs ys x here there within below =
+      let a = from_mapped f xs x here in
+      let b = from_mapped f ys x there in
+      let same : b.0 ≡ a.0 = same_number b.0 a.0 (below b.0 b.1) (within a.0 a.1) (b.2 ∙ sym a.2) in
+      (a.0, a.1, ap (is_in ys) (sym same) ∙ b.1)
+
+  register_shows : (k : ℕ) (r : RegisterCell ℕ ℕ) → slice_get c.registers k ≡ Some r → (y : ℕ) → is_in (shown_nets r) y ≡ true → y < n
+  register_shows k r at y among = driver_within c good.driven y (given_driver c y (register_given c y (shown_is_driven c k y r at among)))
+
+  forcing : AreControlRanks (ordered c) good.ranks good.control_ranks
+  forcing = record {
+    count = good.forcing.count ∙ sym (length-map c.registers (map_register f));
+    after_cell = λ j k cell r j_at k_at among.
+        let old_j = mapped_at (map_cell f) (slice_get c.cells j) cell (sym (slice_get-map (map_cell f) c.cells j) ∙ j_at) in
+        let old_k = mapped_at (map_register f) (slice_get c.registers k) r (sym (slice_get-map (map_register f) c.registers k) ∙ k_at) in
+        let in_old : is_in (map f old_k.0.controls) (f old_j.0.output) ≡ true = ap (λ (q : RegisterCell ℕ ℕ). is_in q.controls (f old_j.0.output)) old_k.2 ∙ (ap (λ c. is_in r.controls c.output) old_j.2 ∙ among) in
+        let found = same_mapped (old_j.0.output ∷ []) old_k.0.controls (f old_j.0.output) (or_left (nat_eq (f old_j.0.output) (f old_j.0.output)) false (eq-eqb (f old_j.0.output) (f old_j.0.output) refl)) in_old (λ y is. subst (λ z. z < n) (sym (alone y old_j.0.output is)) (output_within j old_j.0 old_j.1)) (λ y is. used_within y (control_is_used c k y old_k.0 old_k.1 is)) in
+        good.forcing.after_cell j k old_j.0 old_k.0 old_j.1 old_k.1 (subst (λ z. is_in old_k.0.controls z ≡ true) (alone found.0 old_j.0.output found.1) found.2);
+    before_cell = λ j k x r cell j_at k_at is shows among.
+        let old_j = mapped_at (map_register f) (slice_get c.registers j) r (sym (slice_get-map (map_register f) c.registers j) ∙ j_at) in
+        let old_k = mapped_at (map_cell f) (slice_get c.cells k) cell (sym (slice_get-map (map_cell f) c.cells k) ∙ k_at) in
+        let found = same_mapped (shown_nets old_j.0) old_k.0.inputs x (shown_old old_j.0 r x old_j.2 shows) (ap (λ c. is_in c.inputs x) old_k.2 ∙ among) (register_shows j old_j.0 old_j.1) (λ y here. used_within y (input_is_used c k y old_k.0 old_k.1 here)) in
+        good.forcing.before_cell j k found.0 old_j.0 old_k.0 old_j.1 old_k.1 (ap (λ (q : RegisterCell ℕ ℕ). is_controlled q.kind) old_j.2 ∙ is) found.1 found.2;
+    after_register = λ j k x driver r j_at k_at is shows among.
+        let old_j = mapped_at (map_register f) (slice_get c.registers j) driver (sym (slice_get-map (map_register f) c.registers j) ∙ j_at) in
+        let old_k = mapped_at (map_register f) (slice_get c.registers k) r (sym (slice_get-map (map_register f) c.registers k) ∙ k_at) in
+        let found = same_mapped (shown_nets old_j.0) old_k.0.controls x (shown_old old_j.0 driver x old_j.2 shows) (ap (λ (q : RegisterCell ℕ ℕ). is_in q.controls x) old_k.2 ∙ among) (register_shows j old_j.0 old_j.1) (λ y here. used_within y (control_is_used c k y old_k.0 old_k.1 here)) in
+        good.forcing.after_register j k found.0 old_j.0 old_k.0 old_j.1 old_k.1 (ap (λ (q : RegisterCell ℕ ℕ). is_controlled q.kind) old_j.2 ∙ is) found.1 found.2;
+  }
+    where
+      alone : (y x : ℕ) → is_in (x ∷ []) y ≡ true → y ≡ x
+      alone y x among = elim (or_cases (nat_eq y x) false among) [ inl here ↦ eqb-true y x here | inr none ↦ absurd (both_ways false refl none) ]
+
+      shown_old : (old r : RegisterCell ℕ ℕ) (x : ℕ) → map_register f old ≡ r → is_in (shown_nets r) x ≡ true → is_in (map f (shown_nets old)) x ≡ true
+      shown_old old r x is shows = ap (λ xs. is_in xs x) (sym (shown_renumbered f old.outputs)) ∙ (ap (λ (q : RegisterCell ℕ ℕ). is_in (shown_nets q) x) is ∙ shows)
+
   chained : (k : ℕ) (gater : GatingCell ℕ) → slice_get (map (map_gater f) c.gaters) k ≡ Some gater
       → (option_map f c.clock ≡ Some gater.clock) ⊎ ((j : ℕ) × (before : GatingCell ℕ) × (slice_get (map (map_gater f) c.gaters) j ≡ Some before) × (before.output ≡ gater.clock) × (slice_index good.numbers j < slice_index good.numbers k))
   chained k gater at =
@@ -356,6 +397,8 @@ module _ (c : Circuit) (good : IsWellFormed c) (inputs_once : IsDistinct nat_eq 
     driven = driven_in_order (ordered c) in_order;
     ranks = good.ranks;
     ranked = ranked;
+    control_ranks = good.control_ranks;
+    forcing = forcing;
     numbers = good.numbers;
     chained = record { count = good.chained.count ∙ sym (length-map c.gaters (map_gater f)); chained = chained };
     clocked = All-map (λ r. is_in (clock_nets (ordered c)) r.clock ≡ true) (map_register f) c.registers (All-weaker (λ r. is_in (clock_nets c) r.clock ≡ true) (λ r. is_in (clock_nets (ordered c)) (f r.clock) ≡ true) (λ r is. ap (λ xs. is_in xs (f r.clock)) (clock_nets_is f names c) ∙ in_mapped f (clock_nets c) r.clock is) c.registers good.clocked);

@@ -23,12 +23,13 @@ pub record GatingCell (N : Type 0) : Type 0 where
   pub output : N
   pub cell : CellData
 
--- a register: it takes a function of its input nets and its own bit where its clock net rises. Each output net
--- shows its bit, or the inverse where the truth value beside it is true; `pins` has for each output the place of
--- its pin among the pins of the library cell, and 0 for a plain register. `init` is 0 or 1, 2 for a bit that
--- does not matter, or 3 for one that is not known.
+-- a register: it takes a function of its input nets and its own bit where its clock net rises, and where it has a clear or a preset
+-- these force its bit by its control nets at any moment. Each output net shows its bit, or the inverse where the truth value beside it
+-- is true; `pins` has for each output the place of its pin among the pins of the library cell, and 0 for a plain register. `init` is 0
+-- or 1, 2 for a bit that does not matter, or 3 for one that is not known.
 pub record RegisterCell (N K : Type 0) : Type 0 where
   pub inputs : List N
+  pub controls : List N
   pub outputs : List (N × Bool)
   pub pins : List ℕ
   pub clock : K
@@ -80,12 +81,15 @@ clock_nets c = option_to_list c.clock ++ gater_outputs c
 abbrev pub asked_nets : {N : Type 0} → GatingCell N → List N
 asked_nets gater = gater.enable ∷ option_to_list gater.test
 
+-- the nets whose bits a register reads: its inputs, and the nets of its control
+abbrev pub read_nets : {N K : Type 0} → RegisterCell N K → List N
+read_nets register = register.inputs ++ register.controls
+
 -- the nets that are used for their bits, elsewhere than at a clock pin: at inputs of logic cells, at enables and test
--- pins, at inputs of registers, and as outputs of the netlist
+-- pins, at inputs and controls of registers, and as outputs of the netlist
 abbrev pub used_nets : Circuit → List ℕ
 used_nets c =
-    flat_map (λ cell. cell.inputs) c.cells ++ flat_map asked_nets c.gaters ++ flat_map (λ register. register.inputs) c.registers
-    ++ c.outputs
+    flat_map (λ cell. cell.inputs) c.cells ++ flat_map asked_nets c.gaters ++ flat_map read_nets c.registers ++ c.outputs
 
 -- the nets in net order: the inputs, the clock where it is no input, and then the outputs of the logic cells, of
 -- the gating cells and of the registers, each kind in its own order

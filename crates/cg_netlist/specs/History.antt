@@ -1,12 +1,12 @@
 -- What a netlist does over time: waveforms, and the histories that are lawful over them. Delays are zero: within a
--- moment everything settles, and a rising clock net is the only thing that moves a register.
-use Rattle.std.specs.Prelude.{◌≡◌, ℕ, ◌+◌, Bool, false, not, ◌&&◌, if◌then◌else◌, List, [], ◌∷◌, ◌++◌, map, length, slice_index_or}
+-- moment everything settles, and only a rising clock net or its control moves a register.
+use Rattle.std.specs.Prelude.{◌≡◌, ℕ, ◌+◌, Bool, false, not, ◌&&◌, if◌then◌else◌, List, [], ◌∷◌, ◌++◌, map, length, slice_get, slice_index_or}
 use Rattle.std.specs.Prelude.{replicate, Option, None, Some}
 use Rattle.std.specs.List.{count_by, list_any}
 use Rattle.cg_netlist.specs.declared.parts.RegisterKind.{RegisterKind}
 use Rattle.cg_netlist.specs.declared.parts.RegisterKind.TheVariants.{Plain, Flop}
 use Rattle.cg_netlist.specs.Circuit.{Circuit, GatingCell, RegisterCell, asked_nets, data_inputs}
-use Rattle.cg_netlist.specs.Moment.{Settles, bit, cell_value, values_at, zip_with}
+use Rattle.cg_netlist.specs.Moment.{Settles, bit, cell_value, forced_state, is_controlled, values_at, zip_with}
 
 -- one moment of a waveform: the clock's bit, and a bit for each data input
 pub record Tick : Type 0 where
@@ -47,14 +47,24 @@ abbrev pub next_value : RegisterKind → List Bool → Bool → Bool
 next_value Plain bits own = slice_index_or bits 0 false
 next_value (Flop cell) bits own = cell_value cell (bits ++ own ∷ [])
 
--- a register's bit after a moment with these nets, where it had this bit: its function where it rises, and else what it had
+-- a register's bit after a moment with these nets, where it had this bit and nothing forces it: its function where it rises, and else
+-- what it had
 abbrev pub next_bit : List Bool → List Bool → RegisterCell ℕ ℕ → Bool → Bool
 next_bit before now r own = if rises before now r then next_value r.kind (values_at before r.inputs) own else own
 
--- the registers' bits: at the first moment those of the start
+-- the bits that the registers have where nothing forces them: at the first moment those of the start
+abbrev pub held_now : Circuit → List Bool → Option Moment → List Bool → List Bool
+held_now c start None nets = start
+held_now c start (Some before) nets = zip_with (next_bit before.nets nets) c.registers before.state
+
+-- the registers' bits, which their controls force by the nets of this very moment
 abbrev pub state_now : Circuit → List Bool → Option Moment → List Bool → List Bool
-state_now c start None nets = start
-state_now c start (Some before) nets = zip_with (next_bit before.nets nets) c.registers before.state
+state_now c start before nets = forced_state c nets (held_now c start before nets)
+
+-- a netlist none of whose registers has controls does what it would do if there were no controls
+abbrev pub UnforcedIsHeld : Type 0
+UnforcedIsHeld = (c : Circuit) → ((k : ℕ) (r : RegisterCell ℕ ℕ) → slice_get c.registers k ≡ Some r → is_controlled r.kind ≡ false) →
+    (nets held : List Bool) → length held ≡ length c.registers → forced_state c nets held ≡ held
 
 -- a latch's bit: the OR of the enable and the test net where the clock pin is 0, and else what it had
 abbrev pub next_latch : List Bool → GatingCell ℕ → Bool → Bool

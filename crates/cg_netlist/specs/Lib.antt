@@ -8,6 +8,7 @@ pub mod Nets
 pub mod Ordered
 pub mod Places
 pub mod Ranks
+pub mod Settling
 pub mod View
 pub mod Walk
 pub mod WalkLaws

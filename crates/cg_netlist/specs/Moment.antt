@@ -1,13 +1,15 @@
 -- The bits of a netlist's nets at one moment.
 use Rattle.std.specs.Prelude.{◌≡◌, ℕ, Bool, false, not, if◌then◌else◌, List, [], ◌∷◌, ◌++◌, map, length, slice_get, slice_index_or}
-use Rattle.std.specs.Prelude.{Some}
+use Rattle.std.specs.Prelude.{Some, is_some, unwrap_or}
 use Rattle.std.specs.List.{filter_map}
 use Rattle.std.specs.Option.{option_map_or}
-use Rattle.cg_cell.specs.Cell.{CellData}
+use Rattle.cg_cell.specs.Cell.{CellData, forced, has_control}
 use Rattle.cg_cell.specs.Cover.{cover_value}
 use Rattle.cg_cell.specs.Term.{term_value}
 use Rattle.cg_netlist.specs.declared.parts.LogicFunction.{LogicFunction}
 use Rattle.cg_netlist.specs.declared.parts.LogicFunction.TheVariants.{Cover, Cell}
+use Rattle.cg_netlist.specs.declared.parts.RegisterKind.{RegisterKind}
+use Rattle.cg_netlist.specs.declared.parts.RegisterKind.TheVariants.{Plain, Flop}
 use Rattle.cg_netlist.specs.Circuit.{Circuit, LogicCell, RegisterCell, data_inputs, gater_outputs, register_nets}
 
 -- what is kept for each of these nets, in their order, in a list with a place for each net
@@ -32,6 +34,29 @@ cell_value cell bits = option_map_or (term_value bits) cell.function false
 abbrev pub function_value : LogicFunction → List Bool → Bool
 function_value (Cover cover) bits = cover_value cover bits
 function_value (Cell cell) bits = cell_value cell bits
+
+-- the bit of a register, where it would hold this one: what its control forces at bits of its control nets, if it forces a bit, and
+-- else the bit that it would hold
+abbrev pub forced_value : RegisterKind → List Bool → Bool → Bool
+forced_value Plain bits held = held
+forced_value (Flop cell) bits held = unwrap_or (forced cell.control bits) held
+
+-- the bit of a register at a moment with these nets, and the bits of all
+abbrev pub forced_bit : List Bool → RegisterCell ℕ ℕ → Bool → Bool
+forced_bit nets r held = forced_value r.kind (values_at nets r.controls) held
+
+abbrev pub forced_state : Circuit → List Bool → List Bool → List Bool
+forced_state c nets held = zip_with (forced_bit nets) c.registers held
+
+-- whether a register has a clear or a preset
+abbrev pub is_controlled : RegisterKind → Bool
+is_controlled Plain = false
+is_controlled (Flop cell) = has_control cell.control
+
+-- whether it has a preset
+abbrev pub has_preset : RegisterKind → Bool
+has_preset Plain = false
+has_preset (Flop cell) = is_some cell.control.preset
 
 -- what a register with this bit shows at its output nets: the bit, or its inverse
 abbrev pub shown_bits : RegisterCell ℕ ℕ → Bool → List Bool

@@ -4,7 +4,7 @@ use Rattle.std.specs.List.{list_any, filter, flat_map}
 use Rattle.std.specs.Option.{option_map, option_to_list}
 use Rattle.std.specs.Str.{bytes_eq}
 use Rattle.cg_net.specs.Names.{NetName, net_name, name_place}
-use Rattle.cg_netlist.specs.Circuit.{Circuit, LogicCell, GatingCell, RegisterCell, asked_nets, shown_nets}
+use Rattle.cg_netlist.specs.Circuit.{Circuit, LogicCell, GatingCell, RegisterCell, asked_nets, read_nets, shown_nets}
 
 -- what a netlist has but for the names of its model and of its nets
 pub record Wiring (N : Type 0) : Type 0 where
@@ -36,6 +36,7 @@ abbrev pub map_register : {N M : Type 0} → (N → M) → RegisterCell N N → 
 map_register f r =
     record {
       inputs = map f r.inputs;
+      controls = map f r.controls;
       outputs = map_outputs f r.outputs;
       pins = r.pins;
       clock = f r.clock;
@@ -48,6 +49,7 @@ abbrev pub map_open : {N M : Type 0} → (N → M) → RegisterCell N (Option N)
 map_open f r =
     record {
       inputs = map f r.inputs;
+      controls = map f r.controls;
       outputs = map_outputs f r.outputs;
       pins = r.pins;
       clock = option_map f r.clock;
@@ -81,10 +83,10 @@ abbrev pub driven_by_registers : {N K : Type 0} → List (RegisterCell N K) → 
 driven_by_registers registers = flat_map (λ r. shown_nets r) registers
 
 -- the nets that are used for their bits, elsewhere than at a clock pin: at inputs of logic cells, at enables and test pins of
--- gating cells, at inputs of registers, and as outputs of the netlist
+-- gating cells, at inputs and controls of registers, and as outputs of the netlist
 abbrev pub used_by : {N K : Type 0} → List (LogicCell N) → List (GatingCell N) → List (RegisterCell N K) → List N → List N
 used_by cells gaters registers outputs =
-    flat_map (λ cell. cell.inputs) cells ++ flat_map (λ gater. asked_nets gater) gaters ++ flat_map (λ r. r.inputs) registers
+    flat_map (λ cell. cell.inputs) cells ++ flat_map (λ gater. asked_nets gater) gaters ++ flat_map (λ r. read_nets r) registers
     ++ outputs
 
 -- the nets in net order: the inputs, the clock where it is no input, and then the outputs of the logic cells, of the

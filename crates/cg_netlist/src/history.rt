@@ -1,6 +1,6 @@
 //! What a netlist does over time is fixed by its start and by its waveform, and not by the order of its nets.
 
-ghost use Rattle.cg_netlist.specs.History.{HasHistory, HasOneHistory};
+ghost use Rattle.cg_netlist.specs.History.{HasHistory, HasOneHistory, UnforcedIsHeld};
 ghost use Rattle.cg_netlist.specs.Ordered.{OrderedHasAll, OrderedIsFormed, OrderedIsLawful};
 
 use crate::netlist::Netlist;
@@ -15,6 +15,13 @@ pub fn one_lawful_history(netlist: &Netlist)
 {
     let _ = netlist.nets();
 }
+
+/// The law of netlists without controls: at each moment their registers have the bits that they hold.
+///
+/// The call does nothing; callers use what it ensures.
+pub fn unforced_is_held()
+    ensures { UnforcedIsHeld }
+{}
 
 /// The laws of net order: a well-formed netlist with distinct inputs stays well formed when its nets are numbered in
 /// net order, and its lawful histories stay the same, net by net, with the same outputs.

@@ -111,32 +111,37 @@ pub lent_inverted : (cell : Option CellData) (outputs : List (Bor (List ℕ) × 
 lent_inverted cell [] = refl
 lent_inverted cell (o ∷ os) = ap (λ ws. shows_inverse cell o.1 ∷ ws) (lent_inverted cell os)
 
--- the words of a register, with those of its outputs
-pub register_words : (old : List NetName) (cell : Option CellData) (inputs : List NetName) (outputs : List (NetName × ℕ)) (clock : Option NetName) (init : ℕ)
-    → with_names old ((inputs ++ map (λ o. o.0) outputs) ++ option_to_list clock) ≡ with_names old (mentioned (Register (register_of cell inputs outputs clock init)))
-register_words old cell inputs outputs clock init = ap (λ ws. with_names old ((inputs ++ ws) ++ option_to_list clock)) (sym (shown_is cell outputs))
+-- names that are mentioned after others
+pub register_names : (old a b inputs words : List NetName) → a ≡ with_names old inputs → b ≡ with_names a words → b ≡ with_names old (inputs ++ words)
+register_names old a b inputs words a_is b_is = b_is ∙ (ap (λ names. with_names names words) a_is ∙ sym (with_names-append old inputs words))
 
-pub puts_register : (cell : Option CellData) (inputs : List NetName) (outputs : List (NetName × ℕ)) (clock : Option NetName) (init : ℕ) (old a b new : List NetName) (is : List ℕ) (os : List (ℕ × Bool)) (k : Option ℕ) (pins : List ℕ) (kind : RegisterKind)
+-- the words of a register, with those of its outputs
+pub register_words : (old : List NetName) (cell : Option CellData) (inputs controls : List NetName) (outputs : List (NetName × ℕ)) (clock : Option NetName) (init : ℕ)
+    → with_names old (((inputs ++ controls) ++ map (λ o. o.0) outputs) ++ option_to_list clock) ≡ with_names old (mentioned (Register (register_of cell inputs controls outputs clock init)))
+register_words old cell inputs controls outputs clock init = ap (λ ws. with_names old (((inputs ++ controls) ++ ws) ++ option_to_list clock)) (sym (shown_is cell outputs))
+
+pub puts_register : (cell : Option CellData) (inputs controls : List NetName) (outputs : List (NetName × ℕ)) (clock : Option NetName) (init : ℕ) (old a r b new : List NetName) (is cs : List ℕ) (os : List (ℕ × Bool)) (k : Option ℕ) (pins : List ℕ) (kind : RegisterKind)
     (registers more : List (RegisterCell ℕ (Option ℕ)))
-    → IsMentioned old a inputs is → IsMentioned a b (map (λ o. o.0) outputs) (map (λ o. o.0) os) → map (λ o. o.1) os ≡ map (λ o. shows_inverse cell o.1) outputs → IsMentioned b new (option_to_list clock) (option_to_list k)
-    → pins ≡ map (λ o. o.1) outputs → kind ≡ kind_of cell → more ≡ registers ++ record { inputs = is; outputs = os; pins = pins; clock = k; kind = kind; init = init } ∷ [] → length registers < MOST_REGISTERS
-    → PutsRegister old new registers more (register_of cell inputs outputs clock init)
-puts_register cell inputs outputs clock init old a b new is os k pins kind registers more first second inverted third pins_are kind_is put few =
-    let at_is = later b new (option_to_list clock) is inputs third.names (later a b (map (λ o. o.0) outputs) is inputs second.names first.numbered) in
-    let at_os = later b new (option_to_list clock) (map (λ o. o.0) os) (map (λ o. o.0) outputs) third.names second.numbered in
+    → IsMentioned old a inputs is → IsMentioned a r controls cs → IsMentioned r b (map (λ o. o.0) outputs) (map (λ o. o.0) os) → map (λ o. o.1) os ≡ map (λ o. shows_inverse cell o.1) outputs → IsMentioned b new (option_to_list clock) (option_to_list k)
+    → pins ≡ map (λ o. o.1) outputs → kind ≡ kind_of cell → more ≡ registers ++ record { inputs = is; controls = cs; outputs = os; pins = pins; clock = k; kind = kind; init = init } ∷ [] → length registers < MOST_REGISTERS
+    → PutsRegister old new registers more (register_of cell inputs controls outputs clock init)
+puts_register cell inputs controls outputs clock init old a r b new is cs os k pins kind registers more first between second inverted third pins_are kind_is put few =
+    let words : List NetName = map (λ (o : NetName × ℕ). o.0) outputs in
+    let at_is = later b new (option_to_list clock) is inputs third.names (later r b words is inputs second.names (later a r controls is inputs between.names first.numbered)) in
+    let at_cs = later b new (option_to_list clock) cs controls third.names (later r b words cs controls second.names between.numbered) in
+    let at_os = later b new (option_to_list clock) (map (λ o. o.0) os) words third.names second.numbered in
     let shown : List (NetName × Bool) = map (λ (output : NetName × ℕ). (output.0, shows_inverse cell output.1)) outputs in
     let outs : map_outputs (net_name new) os ≡ shown = outputs_named new os shown (at_os ∙ ap (map (λ w. Some w)) (sym (shown_is cell outputs))) (inverted ∙ sym (inverted_is cell outputs)) in
+    let read : r ≡ with_names old (inputs ++ controls) = register_names old a r inputs controls first.names between.names in
+    let driven : b ≡ with_names old ((inputs ++ controls) ++ words) = register_names old r b (inputs ++ controls) words read second.names in
     record {
-      names =
-          third.names ∙ (ap (λ names. with_names names (option_to_list clock)) (second.names ∙ ap (λ names. with_names names (map (λ o. o.0) outputs)) first.names)
-          ∙ (ap (λ names. with_names names (option_to_list clock)) (sym (with_names-append old inputs (map (λ o. o.0) outputs)))
-          ∙ (sym (with_names-append old (inputs ++ map (λ o. o.0) outputs) (option_to_list clock)) ∙ register_words old cell inputs outputs clock init)));
+      names = register_names old b new ((inputs ++ controls) ++ words) (option_to_list clock) driven third.names ∙ register_words old cell inputs controls outputs clock init;
       few = third.few;
-      register = record { inputs = is; outputs = os; pins = pins; clock = k; kind = kind; init = init };
-      named = λ i. record { inputs = nets_named new is inputs at_is i; outputs = outs i; pins = pins_are i; clock = given_named new k clock third.numbered i; kind = kind_is i; init = init };
-      within = record { inputs = nets_within new is inputs at_is; outputs = nets_within new (map (λ o. o.0) os) (map (λ o. o.0) outputs) at_os; clock = nets_within new (option_to_list k) (option_to_list clock) third.numbered };
+      register = record { inputs = is; controls = cs; outputs = os; pins = pins; clock = k; kind = kind; init = init };
+      named = λ i. record { inputs = nets_named new is inputs at_is i; controls = nets_named new cs controls at_cs i; outputs = outs i; pins = pins_are i; clock = given_named new k clock third.numbered i; kind = kind_is i; init = init };
+      within = record { inputs = nets_within new is inputs at_is; controls = nets_within new cs controls at_cs; outputs = nets_within new (map (λ o. o.0) os) words at_os; clock = nets_within new (option_to_list k) (option_to_list clock) third.numbered };
       put = put;
-      few_registers = omega (arith, few, ap length put, length_push registers (record { inputs = is; outputs = os; pins = pins; clock = k; kind = kind; init = init }));
+      few_registers = omega (arith, few, ap length put, length_push registers (record { inputs = is; controls = cs; outputs = os; pins = pins; clock = k; kind = kind; init = init }));
     }
 
 -- what outputs of registers show, one more
@@ -152,6 +157,3 @@ put_nets nets more net b more_is = ap (map (λ (n : ℕ × Bool). n.0)) more_is 
 
 pub two_words : (old mid new : List NetName) (first second : NetName) → mid ≡ with_names old (first ∷ []) → new ≡ with_names mid (second ∷ []) → new ≡ with_names old (first ∷ second ∷ [])
 two_words old mid new first second mid_is new_is = new_is ∙ ap (λ names. with_name names second) mid_is
-
-pub register_names : (old a b inputs words : List NetName) → a ≡ with_names old inputs → b ≡ with_names a words → b ≡ with_names old (inputs ++ words)
-register_names old a b inputs words a_is b_is = b_is ∙ (ap (λ names. with_names names words) a_is ∙ sym (with_names-append old inputs words))

@@ -11,7 +11,7 @@ use Rattle.cg_netlist_parts.proofs.NetLists.{cell_inputs, gater_inputs, register
 use Rattle.cg_netlist_parts.proofs.OrderMapped.{asks_mapped, cells_driven_mapped, gaters_driven_mapped, ins_mapped, shown_mapped}
 use Rattle.cg_netlist_parts.proofs.OrderMapped.{test_mapped}
 use Rattle.cg_netlist_parts.proofs.ToldByNames.{known_as, told}
-use Rattle.cg_netlist.specs.Circuit.{GatingCell, LogicCell, RegisterCell, shown_nets}
+use Rattle.cg_netlist.specs.Circuit.{GatingCell, LogicCell, RegisterCell, read_nets, shown_nets}
 use Rattle.cg_net.specs.NetSets.{is_in}
 use Rattle.cg_net.specs.Names.{NetName, is_known, net_name}
 use Rattle.cg_netlist_builder.specs.inner.Numbers.{drivers_by, pins_by, roots_by}
@@ -26,9 +26,11 @@ module _ {N M : Type 0} (f : N → M) where
       ap (λ xs. xs ++ driven_by_registers (map (map_open f) rs)) (shown_mapped f r.outputs)
       ∙ (ap (λ xs. map f (shown_nets r) ++ xs) (open_driven_mapped rs) ∙ sym (map-append f (shown_nets r) (driven_by_registers rs)))
 
-  open_data_mapped : (rs : List (RegisterCell N (Option N))) → register_inputs (map (map_open f) rs) ≡ map f (register_inputs rs)
-  open_data_mapped [] = refl
-  open_data_mapped (r ∷ rs) = ap (λ xs. map f r.inputs ++ xs) (open_data_mapped rs) ∙ sym (map-append f r.inputs (register_inputs rs))
+  open_reads_mapped : (rs : List (RegisterCell N (Option N))) → register_inputs (map (map_open f) rs) ≡ map f (register_inputs rs)
+  open_reads_mapped [] = refl
+  open_reads_mapped (r ∷ rs) =
+      ap (λ xs. xs ++ register_inputs (map (map_open f) rs)) (sym (map-append f r.inputs r.controls))
+      ∙ (ap (λ xs. map f (read_nets r) ++ xs) (open_reads_mapped rs) ∙ sym (map-append f (read_nets r) (register_inputs rs)))
 
   open_clocks_mapped : (rs : List (RegisterCell N (Option N))) → flat_map (λ (r : RegisterCell M (Option M)). option_to_list r.clock) (map (map_open f) rs) ≡ map f (flat_map (λ (r : RegisterCell N (Option N)). option_to_list r.clock) rs)
   open_clocks_mapped [] = refl
@@ -54,7 +56,7 @@ module _ {N M : Type 0} (f : N → M) where
       let d : List N = register_inputs registers in
       ap (λ xs. xs ++ gater_inputs (map (map_gater f) gaters) ++ register_inputs (map (map_open f) registers) ++ map f outputs) (ins_mapped f cells)
       ∙ (ap (λ xs. map f a ++ xs ++ register_inputs (map (map_open f) registers) ++ map f outputs) (asks_mapped f gaters)
-      ∙ (ap (λ xs. map f a ++ map f e ++ xs ++ map f outputs) (open_data_mapped registers)
+      ∙ (ap (λ xs. map f a ++ map f e ++ xs ++ map f outputs) (open_reads_mapped registers)
       ∙ sym (map-append f (a ++ e ++ d) outputs
       ∙ (ap (λ xs. xs ++ map f outputs) (map-append f (a ++ e) d)
       ∙ ap (λ xs. xs ++ map f d ++ map f outputs) (map-append f a e)))))

@@ -11,7 +11,7 @@ use Rattle.std.proofs.lemmas.List.{length-map, map-append}
 use Rattle.std.proofs.lemmas.List.Sums.{sum_by-cons}
 use Rattle.cg_netlist_parts.specs.declared.fault.NetFault.TheVariants.{TwoDrivers, NoDriver, Cycle, ClockFault}
 use Rattle.cg_netlist_builder.proofs.MarkLemmas.{in_counts}
-use Rattle.cg_net.proofs.Members.{distinct_cons, distinct_left, distinct_right}
+use Rattle.cg_net.proofs.Members.{distinct_apart, distinct_cons, distinct_left, distinct_right, is_in_left, is_in_right}
 use Rattle.cg_netlist.proofs.OrderedForm.{names}
 use Rattle.cg_netlist.proofs.RankLemmas.{ranked, unranked}
 use Rattle.cg_netlist_builder.proofs.ByNumber.{count_as, drivers_as, roots_as, uses_mapped}
@@ -26,18 +26,21 @@ use Rattle.cg_netlist_parts.proofs.NetLists.{cell_inputs, gater_inputs, register
 use Rattle.cg_netlist_builder.proofs.RanksTell.{driven_as, driven_by_none, driven_by_some, rank_ends}
 use Rattle.cg_netlist_parts.proofs.ToldByNames.{known_as, place_back}
 use Rattle.cg_netlist_parts.proofs.WaysEnd.{ends_bounded, undriven_ends}
-use Rattle.cg_netlist.specs.Circuit.{GatingCell, LogicCell, RegisterCell, asked_nets, shown_nets}
+use Rattle.cg_netlist.specs.Circuit.{GatingCell, LogicCell, RegisterCell, asked_nets, read_nets, shown_nets}
 use Rattle.cg_net.specs.NetSets.{is_in}
 use Rattle.cg_netlist_builder.specs.inner.FirstNet.{IsFirst}
 use Rattle.cg_net.specs.Names.{NetName, is_known, net_name}
 use Rattle.cg_netlist.specs.Ranks.{driving_cell, rank_of}
 use Rattle.cg_netlist_builder.specs.inner.Numbers.{AreNumbers, GaterWithin, Numbers, OpenWithin, drivers_by, driving, driving_gater}
 use Rattle.cg_netlist_builder.specs.inner.Numbers.{gater_rank, gated, is_bad_clock, is_bad_gater, is_bad_root, is_behind_cycle}
-use Rattle.cg_netlist_builder.specs.inner.Numbers.{is_driven_twice, is_undriven, pins_by, rooted, roots_by, seen, used}
+use Rattle.cg_netlist_builder.specs.inner.Numbers.{is_driven_twice, is_undriven, pins_by, rooted, roots_by, seen, settling, used}
 use Rattle.cg_netlist.specs.Places.{CellWithin}
 use Rattle.cg_netlist_parts.specs.Faults.{EachNet, HasClock, IsClockProper, IsDrivenIfUsed, IsDrivenOnce, IsEnding, IsFault, IsFirstNot}
 use Rattle.cg_netlist_parts.specs.Faults.{IsGaterProper, IsRootProper, ends_within, reaches}
+use Rattle.cg_netlist.specs.Settling.{settling_cells}
+use Rattle.cg_netlist_parts.proofs.SettlingParts.{settling_nets, settling_once, settling_opened}
 use Rattle.cg_netlist_parts.specs.Part.{Part, cells, clocks, drivers, gaters, inputs, is_gater_output, nets, roots, uses}
+use Rattle.cg_netlist_parts.specs.Part.{settling as settling_parts}
 use Rattle.cg_netlist_parts.specs.Said.{Said, said}
 use Rattle.cg_netlist.specs.Wiring.{driven_by_cells, driven_by_gaters, driven_by_registers, map_cell, map_gater, map_open}
 use Rattle.cg_netlist.specs.Wiring.{used_by}
@@ -161,7 +164,7 @@ module _ (parts : List Part) (n : Numbers) (ok : AreNumbers n) (same : said part
   used_each = each_together Is (a ++ e ++ d) n.outputs (each_together Is (a ++ e) d (each_together Is a e
       (flat_each Is (λ (k : LogicCell ℕ). k.inputs) (CellWithin (length n.names)) (λ k within. within.inputs) n.cells ok.cells)
       (flat_each Is (λ (g : GatingCell ℕ). asked_nets g) (GaterWithin (length n.names)) (λ g within. within.asked) n.gaters ok.gaters))
-      (flat_each Is (λ (r : RegisterCell ℕ (Option ℕ)). r.inputs) (OpenWithin (length n.names)) (λ r within. within.inputs) n.registers ok.registers)) ok.outputs
+      (flat_each Is (λ (r : RegisterCell ℕ (Option ℕ)). read_nets r) (OpenWithin (length n.names)) (λ r within. each_together Is r.inputs r.controls within.inputs within.controls) n.registers ok.registers)) ok.outputs
 
   abbrev declared : List ℕ
   declared = filter (λ net. not (is_in n.inputs net)) n.clocks
@@ -275,40 +278,56 @@ module _ (parts : List Part) (n : Numbers) (ok : AreNumbers n) (same : said part
     cells_once : IsDistinct nat_eq (driven_by_cells n.cells)
     cells_once = distinct_right (n.inputs ++ declared) (driven_by_cells n.cells) (distinct_left (n.inputs ++ declared ++ driven_by_cells n.cells) (driven_by_gaters n.gaters) front_once)
 
+    registers_once : IsDistinct nat_eq (driven_by_registers n.registers)
+    registers_once = distinct_right (n.inputs ++ declared ++ driven_by_cells n.cells ++ driven_by_gaters n.gaters) (driven_by_registers n.registers) driving_once
+
     -- cycles
-    cells_within : AllByRecursion (CellNets Is) n.cells
-    cells_within = each (CellWithin (length n.names)) (CellNets Is) (λ k within. record { inputs = within.inputs; output = within.output }) n.cells ok.cells
+    abbrev ks : List (LogicCell ℕ)
+    ks = settling n
 
-    long_cells : length (cells parts) ≡ length n.cells
-    long_cells = ap length cells_seen ∙ length-map n.cells (map_cell name)
+    cells_within : AllByRecursion (CellNets Is) ks
+    cells_within =
+        settling_nets Is (OpenWithin (length n.names)) (λ r within. within.controls) (λ r within. within.outputs) n.cells n.registers
+        (each (CellWithin (length n.names)) (CellNets Is) (λ k within. record { inputs = within.inputs; output = within.output }) n.cells ok.cells) ok.registers
 
-    ends_at : (x m : ℕ) → ends_within (cells parts) m (name x) ≡ ends_within (map (map_cell name) n.cells) m (name x)
-    ends_at x m = ap (λ ks. ends_within ks m (name x)) cells_seen
+    settling_distinct : IsDistinct nat_eq (driven_by_cells ks)
+    settling_distinct = settling_once n.cells n.registers cells_once registers_once (λ x i.
+        distinct_apart (n.inputs ++ declared ++ driven_by_cells n.cells ++ driven_by_gaters n.gaters) (driven_by_registers n.registers) driving_once x
+        (is_in_left (n.inputs ++ declared ++ driven_by_cells n.cells) (driven_by_gaters n.gaters) x (is_in_right (n.inputs ++ declared) (driven_by_cells n.cells) x i)))
+
+    settling_seen : settling_parts parts ≡ map (map_cell name) ks
+    settling_seen = ap (λ (s : Said). settling_cells s.cells s.registers) same ∙ settling_opened name n.cells n.registers
+
+    long_cells : length (settling_parts parts) ≡ length ks
+    long_cells = ap length settling_seen ∙ length-map ks (map_cell name)
+
+    ends_at : (x m : ℕ) → ends_within (settling_parts parts) m (name x) ≡ ends_within (map (map_cell name) ks) m (name x)
+    ends_at x m = ap (λ cs. ends_within cs m (name x)) settling_seen
 
     ending_if : (x : ℕ) → Is x → is_behind_cycle n x ≡ false → IsEnding parts (name x)
-    ending_if x lt not_behind = go (driving_cell n.cells x) refl not_behind
+    ending_if x lt not_behind = go (driving_cell ks x) refl not_behind
       where
-        go : (o : Option ℕ) → driving_cell n.cells x ≡ o → option_map_or (λ k. is_none (rank_of n.cells k)) o false ≡ false → IsEnding parts (name x)
-        go None none behind = (0, ends_at x 0 ∙ undriven_ends (map (map_cell name) n.cells) 0 (name x) (driven_as n.names ok.different n.cells cells_within x lt ∙ driven_by_none n.cells 0 x none))
+        go : (o : Option ℕ) → driving_cell ks x ≡ o → option_map_or (λ k. is_none (rank_of ks k)) o false ≡ false → IsEnding parts (name x)
+        go None none behind = (0, ends_at x 0 ∙ undriven_ends (map (map_cell name) ks) 0 (name x) (driven_as n.names ok.different ks cells_within x lt ∙ driven_by_none ks 0 x none))
         go (Some j) some behind =
-            let found = driven_by_some n.cells 0 x j some in
+            let found = driven_by_some ks 0 x j some in
             let place : j ≡ found.0 = found.2 ∙ omega arith in
-            let ranked : is_some (rank_of n.cells found.0) ≡ true = ap (λ i. is_some (rank_of n.cells i)) (sym place) ∙ some_none (rank_of n.cells j) behind in
-            (length n.cells, ends_at x (length n.cells) ∙ (ap (λ y. ends_within (map (map_cell name) n.cells) (length n.cells) (name y)) (sym found.4) ∙ (sym (rank_ends n.names ok.different n.cells cells_within cells_once (length n.cells) found.0 found.1 found.3) ∙ ranked)))
+            let ranked : is_some (rank_of ks found.0) ≡ true = ap (λ i. is_some (rank_of ks i)) (sym place) ∙ some_none (rank_of ks j) behind in
+            (length ks, ends_at x (length ks) ∙ (ap (λ y. ends_within (map (map_cell name) ks) (length ks) (name y)) (sym found.4) ∙ (sym (rank_ends n.names ok.different ks cells_within settling_distinct (length ks) found.0 found.1 found.3) ∙ ranked)))
 
     endless_if : (x : ℕ) → Is x → is_behind_cycle n x ≡ true → IsEnding parts (name x) → ⊥
-    endless_if x lt is_behind ending = go (driving_cell n.cells x) refl is_behind
+    endless_if x lt is_behind ending = go (driving_cell ks x) refl is_behind
       where
-        go : (o : Option ℕ) → driving_cell n.cells x ≡ o → option_map_or (λ k. is_none (rank_of n.cells k)) o false ≡ true → ⊥
+        go : (o : Option ℕ) → driving_cell ks x ≡ o → option_map_or (λ k. is_none (rank_of ks k)) o false ≡ true → ⊥
         go None none behind = both_ways false refl behind
         go (Some j) some behind =
-            let found = driven_by_some n.cells 0 x j some in
+            let found = driven_by_some ks 0 x j some in
             let place : j ≡ found.0 = found.2 ∙ omega arith in
-            let ends : ends_within (map (map_cell name) n.cells) (length n.cells) (name x) ≡ true =
-            sym (ends_at x (length n.cells)) ∙ (ap (λ m. ends_within (cells parts) m (name x)) (sym long_cells) ∙ ends_bounded (cells parts) ending.0 (name x) ending.1) in
-            let ranked : is_some (rank_of n.cells j) ≡ true =
-            ap (λ i. is_some (rank_of n.cells i)) place ∙ (rank_ends n.names ok.different n.cells cells_within cells_once (length n.cells) found.0 found.1 found.3 ∙ (ap (λ y. ends_within (map (map_cell name) n.cells) (length n.cells) (name y)) found.4 ∙ ends)) in
-            both_ways (is_some (rank_of n.cells j)) (none_some (rank_of n.cells j) behind) ranked
+            let ends : ends_within (map (map_cell name) ks) (length ks) (name x) ≡ true =
+            sym (ends_at x (length ks)) ∙ (ap (λ m. ends_within (settling_parts parts) m (name x)) (sym long_cells) ∙ ends_bounded (settling_parts parts) ending.0 (name x) ending.1) in
+            let ranked : is_some (rank_of ks j) ≡ true =
+            ap (λ i. is_some (rank_of ks i)) place ∙ (rank_ends n.names ok.different ks cells_within settling_distinct (length ks) found.0 found.1 found.3 ∙ (ap (λ y. ends_within (map (map_cell name) ks) (length ks) (name y)) found.4 ∙ ends)) in
+            both_ways (is_some (rank_of ks j)) (none_some (rank_of ks j) behind) ranked
 
     pub cycle_first : EachNet parts (IsDrivenIfUsed parts) → (first : Option ℕ) → IsFirst (length n.names) (is_behind_cycle n) first → MatchOption first (EachNet parts (IsEnding parts)) (λ x. IsFault parts (Cycle (name x)))
     cycle_first driven first found = go first (found_first (IsEnding parts) (is_behind_cycle n) ending_if endless_if first found)

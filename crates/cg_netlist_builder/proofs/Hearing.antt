@@ -74,6 +74,7 @@ module _ (names more : List NetName) where
   register_keeps : (r : RegisterCell ℕ (Option ℕ)) → OpenWithin (length names) r → map_open (net_name (names ++ more)) r ≡ map_open (net_name names) r
   register_keeps r within = λ i. record {
     inputs = nets_keep r.inputs within.inputs i;
+    controls = nets_keep r.controls within.controls i;
     outputs = outputs_keep r.outputs within.outputs i;
     pins = r.pins;
     clock = given_keeps r.clock within.clock i;
@@ -104,6 +105,7 @@ gater_wider n m le gater within = record {
 open_wider : (n m : ℕ) → n ≤ m → (r : RegisterCell ℕ (Option ℕ)) → OpenWithin n r → OpenWithin m r
 open_wider n m le r within = record {
   inputs = each (λ x. x < n) (λ x. x < m) (λ x lt. omega (arith, lt, le)) r.inputs within.inputs;
+  controls = each (λ x. x < n) (λ x. x < m) (λ x lt. omega (arith, lt, le)) r.controls within.controls;
   outputs = each (λ x. x < n) (λ x. x < m) (λ x lt. omega (arith, lt, le)) (shown_nets r) within.outputs;
   clock = each (λ x. x < n) (λ x. x < m) (λ x lt. omega (arith, lt, le)) (option_to_list r.clock) within.clock;
 }

@@ -130,7 +130,7 @@ module _ (given : NetName → Option ℕ) where
 -- nets stay within
 within_still : (m : ℕ) (given : ℕ → Option ℕ) (rs : List (RegisterCell ℕ (Option ℕ))) → AllByRecursion (OpenWithin m) rs → AllByRecursion (OpenWithin m) (map (with_init given) rs)
 within_still m given [] all = all
-within_still m given (r ∷ rs) all = (record { inputs = all.0.inputs; outputs = all.0.outputs; clock = all.0.clock }, within_still m given rs all.1)
+within_still m given (r ∷ rs) all = (record { inputs = all.0.inputs; controls = all.0.controls; outputs = all.0.outputs; clock = all.0.clock }, within_still m given rs all.1)
 
 -- inits from 0 to 3
 all_small : (inits : List ℕ) (i init : ℕ) → All (λ init. init ≤ 3) inits → slice_get inits i ≡ Some init → init ≤ 3

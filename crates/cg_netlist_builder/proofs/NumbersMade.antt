@@ -57,9 +57,10 @@ module _ {N M K : Type 0} (f : N → M) (g : M → K) (h : N → K) where
 
   register_goes : (r : RegisterCell N N) → RegisterNets Goes r → map_register g (map_register f r) ≡ map_register h r
   register_goes r all =
-      ap (λ i. record { inputs = i; outputs = map_outputs g (map_outputs f r.outputs); pins = r.pins; clock = g (f r.clock); kind = r.kind; init = r.init }) (nets_go r.inputs all.inputs)
-      ∙ (ap (λ o. record { inputs = map h r.inputs; outputs = o; pins = r.pins; clock = g (f r.clock); kind = r.kind; init = r.init }) (outputs_go r.outputs all.outputs)
-      ∙ ap (λ c. record { inputs = map h r.inputs; outputs = map_outputs h r.outputs; pins = r.pins; clock = c; kind = r.kind; init = r.init }) all.clock)
+      ap (λ i. record { inputs = i; controls = map g (map f r.controls); outputs = map_outputs g (map_outputs f r.outputs); pins = r.pins; clock = g (f r.clock); kind = r.kind; init = r.init }) (nets_go r.inputs all.inputs)
+      ∙ (ap (λ i. record { inputs = map h r.inputs; controls = i; outputs = map_outputs g (map_outputs f r.outputs); pins = r.pins; clock = g (f r.clock); kind = r.kind; init = r.init }) (nets_go r.controls all.controls)
+      ∙ (ap (λ o. record { inputs = map h r.inputs; controls = map h r.controls; outputs = o; pins = r.pins; clock = g (f r.clock); kind = r.kind; init = r.init }) (outputs_go r.outputs all.outputs)
+      ∙ ap (λ c. record { inputs = map h r.inputs; controls = map h r.controls; outputs = map_outputs h r.outputs; pins = r.pins; clock = c; kind = r.kind; init = r.init }) all.clock))
 
   all_go : {X Y Z : Type 0} (a : X → Y) (b : Y → Z) (c : X → Z) (P : X → Type 0) → ((x : X) → P x → b (a x) ≡ c x) → (xs : List X) → AllByRecursion P xs → map b (map a xs) ≡ map c xs
   all_go a b c P one [] all = refl
@@ -110,7 +111,7 @@ module _ (parts : List Part) (n : Numbers) (ok : AreNumbers n) (same : said part
   clock_name None None some = absurd (some refl)
 
   register_on : (r : RegisterCell ℕ (Option ℕ)) → (clock_number n ≡ None → ⊥) → on_clock (option_map name (clock_number n)) (map_open name r) ≡ map_register name (on_number (clock_number n) r)
-  register_on r some = ap (λ c. record { inputs = map name r.inputs; outputs = map_outputs name r.outputs; pins = r.pins; clock = c; kind = r.kind; init = r.init }) (clock_name r.clock (clock_number n) some)
+  register_on r some = ap (λ c. record { inputs = map name r.inputs; controls = map name r.controls; outputs = map_outputs name r.outputs; pins = r.pins; clock = c; kind = r.kind; init = r.init }) (clock_name r.clock (clock_number n) some)
 
   registers_on : (rs : List (RegisterCell ℕ (Option ℕ))) → (clock_number n ≡ None → ⊥) → map (on_clock (option_map name (clock_number n))) (map (map_open name) rs) ≡ map (map_register name) (map (on_number (clock_number n)) rs)
   registers_on [] some = refl
@@ -152,7 +153,7 @@ module _ (parts : List Part) (n : Numbers) (ok : AreNumbers n) (same : said part
 
   registers_nets : (rs : List (RegisterCell ℕ (Option ℕ))) → AllByRecursion (OpenWithin (length n.names)) rs → (clock_number n ≡ None → ⊥) → AllByRecursion (RegisterNets Is) (map (on_number (clock_number n)) rs)
   registers_nets [] all some = tt
-  registers_nets (r ∷ rs) all some = (record { inputs = all.0.inputs; outputs = all.0.outputs; clock = number_within r.clock (clock_number n) all.0.clock clock_within some }, registers_nets rs all.1 some)
+  registers_nets (r ∷ rs) all some = (record { inputs = all.0.inputs; controls = all.0.controls; outputs = all.0.outputs; clock = number_within r.clock (clock_number n) all.0.clock clock_within some }, registers_nets rs all.1 some)
 
   all_registers_nets : (rs : List (RegisterCell ℕ (Option ℕ))) → n.registers ≡ rs → AllByRecursion (OpenWithin (length n.names)) rs → AllByRecursion (RegisterNets Is) (map (on_number (clock_number n)) rs)
   all_registers_nets [] are all = tt

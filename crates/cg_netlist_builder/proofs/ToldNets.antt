@@ -3,7 +3,7 @@ use Rattle.std.proofs.Common.{[], ◌≡◌, ℕ, ◌+◌, ◌<◌, Bool, true, 
 use Rattle.std.proofs.Common.{take, slice_get, map, Option, None, append_assoc, subst, refl, sym, ap, ◌∙◌}
 use Rattle.std.specs.List.{All, AllByRecursion, filter, flat_map}
 use Rattle.std.specs.Option.{option_map, option_to_list}
-use Rattle.cg_netlist.specs.Circuit.{GatingCell, LogicCell, RegisterCell, asked_nets, shown_nets}
+use Rattle.cg_netlist.specs.Circuit.{GatingCell, LogicCell, RegisterCell, asked_nets, read_nets, shown_nets}
 use Rattle.cg_net.specs.NetSets.{is_in}
 use Rattle.cg_netlist_builder.specs.inner.Renumbering.{CellAmong, RegisterAmong}
 use Rattle.cg_net.specs.Marks.{AreMarksOf, is_marked}
@@ -76,11 +76,11 @@ module _ (n : Numbers) (ok : AreNumbers n) where
   used_within =
       let a = flat_map (λ (k : LogicCell ℕ). k.inputs) n.cells in
       let e = flat_map (λ (g : GatingCell ℕ). asked_nets g) n.gaters in
-      let d = flat_map (λ (r : RegisterCell ℕ (Option ℕ)). r.inputs) n.registers in
+      let d = flat_map (λ (r : RegisterCell ℕ (Option ℕ)). read_nets r) n.registers in
       each_together Is (a ++ e ++ d) n.outputs (each_together Is (a ++ e) d (each_together Is a e
       (flat_within (CellWithin (length n.names)) (λ (k : LogicCell ℕ). k.inputs) (λ k within. within.inputs) n.cells ok.cells)
       (flat_within (GaterWithin (length n.names)) (λ (g : GatingCell ℕ). asked_nets g) (λ g within. within.asked) n.gaters ok.gaters))
-      (flat_within (OpenWithin (length n.names)) (λ (r : RegisterCell ℕ (Option ℕ)). r.inputs) (λ r within. within.inputs) n.registers ok.registers)) ok.outputs
+      (flat_within (OpenWithin (length n.names)) (λ (r : RegisterCell ℕ (Option ℕ)). read_nets r) (λ r within. each_together Is r.inputs r.controls within.inputs within.controls) n.registers ok.registers)) ok.outputs
 
   pub order_within : (clocks : List ℕ) → AllByRecursion Is clocks → AllByRecursion Is (drivers_by nat_eq n.inputs clocks n.cells n.gaters n.registers)
   order_within clocks within =
@@ -115,7 +115,7 @@ module _ (n : Numbers) (ok : AreNumbers n) where
     where
       go : (rs : List (RegisterCell ℕ (Option ℕ))) → AllByRecursion (OpenWithin (length n.names)) rs → AllByRecursion (λ (r : RegisterCell ℕ ℕ). r.clock < length n.names) (map (on_number (clock_number n)) rs) → AllByRecursion (RegisterAmong (length n.names)) (map (on_number (clock_number n)) rs)
       go [] all clocks = tt
-      go (r ∷ rs) all clocks = (record { inputs = from_recursion Is r.inputs all.0.inputs; outputs = from_recursion Is (shown_nets r) all.0.outputs; clock = clocks.0 }, go rs all.1 clocks.1)
+      go (r ∷ rs) all clocks = (record { inputs = from_recursion Is r.inputs all.0.inputs; controls = from_recursion Is r.controls all.0.controls; outputs = from_recursion Is (shown_nets r) all.0.outputs; clock = clocks.0 }, go rs all.1 clocks.1)
 
   -- the nets of the parts in net order
   shown_on : (k : Option ℕ) (rs : List (RegisterCell ℕ (Option ℕ))) → driven_by_registers rs ≡ driven_by_registers (map (on_number k) rs)
@@ -140,7 +140,7 @@ module _ (n : Numbers) (ok : AreNumbers n) where
     where
       go : (rs : List (RegisterCell ℕ (Option ℕ))) → AllByRecursion (OpenWithin (length n.names)) rs → AllByRecursion (λ (r : RegisterCell ℕ ℕ). r.clock < length n.names) (map (on_number (clock_number n)) rs) → AllByRecursion (RegisterNets Is) (map (on_number (clock_number n)) rs)
       go [] all clocks = tt
-      go (r ∷ rs) all clocks = (record { inputs = all.0.inputs; outputs = all.0.outputs; clock = clocks.0 }, go rs all.1 clocks.1)
+      go (r ∷ rs) all clocks = (record { inputs = all.0.inputs; controls = all.0.controls; outputs = all.0.outputs; clock = clocks.0 }, go rs all.1 clocks.1)
 
 -- wirings whose nets get the same numbers
 module _ {N M : Type 0} (f g : N → M) where
@@ -156,7 +156,7 @@ module _ {N M : Type 0} (f g : N → M) where
   outputs_agree (o ∷ os) all = ap (λ y. (y, o.1) ∷ map_outputs f os) all.0 ∙ ap (λ ys. (g o.0, o.1) ∷ ys) (outputs_agree os all.1)
 
   register_agrees : (r : RegisterCell N N) → RegisterNets Agree r → map_register f r ≡ map_register g r
-  register_agrees r all = λ i. record { inputs = nets_agree f g r.inputs all.inputs i; outputs = outputs_agree r.outputs all.outputs i; pins = r.pins; clock = all.clock i; kind = r.kind; init = r.init }
+  register_agrees r all = λ i. record { inputs = nets_agree f g r.inputs all.inputs i; controls = nets_agree f g r.controls all.controls i; outputs = outputs_agree r.outputs all.outputs i; pins = r.pins; clock = all.clock i; kind = r.kind; init = r.init }
 
   pub wiring_agrees : (w : Wiring N) → WiringNets Agree w → map_wiring f w ≡ map_wiring g w
   wiring_agrees w all = λ i. record {

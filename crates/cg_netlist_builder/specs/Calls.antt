@@ -32,11 +32,12 @@ abbrev pub shows_inverse : Option CellData → ℕ → Bool
 shows_inverse None place = false
 shows_inverse (Some cell) place = option_map_or is_bar (slice_get cell.pins place) false
 
--- a register; each output is a net, and the place of its pin among those of the cell
-abbrev pub register_of : Option CellData → List NetName → List (NetName × ℕ) → Option NetName → ℕ →
+-- a register, with its inputs and the nets of its control; each output is a net, and the place of its pin among those of the cell
+abbrev pub register_of : Option CellData → List NetName → List NetName → List (NetName × ℕ) → Option NetName → ℕ →
     RegisterCell NetName (Option NetName)
-register_of cell inputs outputs clock init = record {
+register_of cell inputs controls outputs clock init = record {
   inputs = inputs;
+  controls = controls;
   outputs = map (λ output. (output.0, shows_inverse cell output.1)) outputs;
   pins = map (λ output. output.1) outputs;
   clock = clock;

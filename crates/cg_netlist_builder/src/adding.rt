@@ -66,6 +66,7 @@ pub(crate) struct GaterWords<'a> {
 pub(crate) struct RegisterWords<'a> {
     pub(crate) cell: Option<&'a CellType>,
     pub(crate) inputs: &'a [&'a [u8]],
+    pub(crate) controls: &'a [&'a [u8]],
     pub(crate) outputs: &'a [(&'a [u8], u32)],
     pub(crate) clock: Option<&'a [u8]>,
     pub(crate) init: u8,
@@ -176,6 +177,7 @@ pub(crate) fn add_register(
         (IsRegisterFault (with_names names.old (mentioned (RegisterPart (register_said words.entry)))) (length registers.old.items)) }
 {
     let inputs = mention_each(alloc, names, words.inputs)?;
+    let controls = mention_each(alloc, names, words.controls)?;
     let nets = mention_outputs(alloc, names, words.cell, words.outputs)?;
     let clock = mention_given(alloc, names, words.clock)?;
     if registers.len() == MOST_REGISTERS {
@@ -187,6 +189,7 @@ pub(crate) fn add_register(
         registers,
         OpenRegister {
             inputs,
+            controls,
             outputs: nets,
             pins,
             clock,

@@ -153,8 +153,8 @@ impl Builder {
         }))
     }
 
-    /// Adds a register: a placed cell of a library, of kind Flop, with these nets at its Data pins in pin order, or a
-    /// plain register of one input and one output. An output is a net and the place of its pin among the pins of the
+    /// Adds a register: a placed cell of a library, of kind Flop, with these nets at its data pins and at its control pins,
+    /// both in pin order, or a plain register of one input and one output. At a pin that is both one net stands. An output is a net and the place of its pin among the pins of the
     /// cell, counted from 0, or 0 for a plain register; outputs come in pin order, and one at least is given. A register
     /// with no clock of its own is on the one clock of the netlist. `init` is 0 or 1, 2 for a bit that does not
     /// matter, or 3 for one that is not known.
@@ -162,22 +162,24 @@ impl Builder {
         &mut self,
         cell: Option<&CellType>,
         inputs: &[&[u8]],
+        controls: &[&[u8]],
         outputs: &[(&[u8], u32)],
         clock: Option<&[u8]>,
         init: u8,
     ) -> Result<(), AddFault>
         requires fits { RegisterFits (register_of (option_copied cell) (map (λ name. name.now) inputs.now)
-            (map (λ output. (output.0.now, output.1)) outputs.now) (option_copied clock) init) }
+            (map (λ name. name.now) controls.now) (map (λ output. (output.0.now, output.1)) outputs.now) (option_copied clock) init) }
         requires nets { AllByRecursion (λ name. IsTrue (is_name name))
             (mentioned (RegisterPart (register_of (option_copied cell) (map (λ name. name.now) inputs.now)
-            (map (λ output. (output.0.now, output.1)) outputs.now) (option_copied clock) init))) }
+            (map (λ name. name.now) controls.now) (map (λ output. (output.0.now, output.1)) outputs.now) (option_copied clock) init))) }
         ensures { Takes self.old
-            (RegisterPart (register_of (option_copied cell.entry) (map (λ name. name.now) inputs.now) (map (λ output. (output.0.now, output.1)) outputs.now)
-            (option_copied clock.entry) init)) self.new result }
+            (RegisterPart (register_of (option_copied cell.entry) (map (λ name. name.now) inputs.now) (map (λ name. name.now) controls.now)
+            (map (λ output. (output.0.now, output.1)) outputs.now) (option_copied clock.entry) init)) self.new result }
     {
         self.take(PartWords::Register(RegisterWords {
             cell,
             inputs,
+            controls,
             outputs,
             clock,
             init,

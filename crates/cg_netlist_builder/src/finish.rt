@@ -1,17 +1,20 @@
 //! From parts to a netlist: what parts may get wrong, in order, and the netlist where it is nothing. The net of a fault is the first
 //! that has some marks.
 
-ghost use Rattle.std.specs.Prelude.{◌≡◌, ◌⊎◌, ◌<◌, ◌&&◌, ◌||◌, List, length, IfOk, IsTrue, MatchResult, ℕ, Bool, Some, not, nat_eq, nat_lt};
-ghost use Rattle.std.specs.List.{All, count_by};
+ghost use Rattle.std.specs.Prelude.{◌≡◌, ◌⊎◌, ◌<◌, ◌&&◌, ◌||◌, List, length, IfOk, OnOk, IsTrue, MatchResult, ℕ, Bool, Some, not, nat_eq, nat_lt};
+ghost use Rattle.std.specs.Prelude.{take};
+ghost use Rattle.std.specs.List.{All, AllByRecursion, count_by};
 ghost use Rattle.cg_cell.specs.Name.{is_name};
 ghost use Rattle.cg_net.specs.NetSets.{is_in};
 ghost use Rattle.cg_net.specs.Marks.{AreMarksOf, is_marked};
 ghost use Rattle.cg_netlist_builder.specs.inner.FirstNet.{IsFirst, marked_before};
-ghost use Rattle.cg_netlist.specs.Ranks.{ranks_of};
+ghost use Rattle.cg_netlist.specs.Places.{CellWithin};
+ghost use Rattle.cg_netlist.specs.Ranks.{is_unranked, ranks_of};
+ghost use Rattle.cg_netlist.specs.Settling.{settling_cells};
 ghost use Rattle.cg_netlist_parts.specs.declared.fault.NetFault.TheVariants.{ClockFault, Cycle, NoDriver, NoMemory, TwoDrivers};
 ghost use Rattle.cg_netlist_builder.specs.inner.Finishing.{FindsFirstFault, has_no_clock};
 ghost use Rattle.cg_netlist_builder.specs.inner.Heard.{IsHeard};
-ghost use Rattle.cg_netlist_builder.specs.inner.Numbers.{AreNumbers, driving, gated, is_bad_clock, is_bad_gater, is_bad_root, is_behind_cycle, is_driven_twice, is_undriven, rooted, seen, used as in_use};
+ghost use Rattle.cg_netlist_builder.specs.inner.Numbers.{AreNumbers, OpenWithin, driving, gated, is_bad_clock, is_bad_gater, is_bad_root, is_behind_cycle, is_driven_twice, is_undriven, rooted, seen, used as in_use};
 ghost use Rattle.cg_netlist_parts.specs.Faults.{IsFault, IsFaultless};
 ghost use Rattle.cg_netlist_parts.specs.Part.{Part};
 ghost use Rattle.cg_netlist_parts.specs.Said.{said};
@@ -20,12 +23,14 @@ ghost use Rattle.cg_net.specs.Names.{net_name};
 
 use crate::order::in_net_order;
 use crate::parts::{
-    Parts, add_listed, chain_cells, clock_roots, gater_output_marks, listed, marks, order, uses,
+    OpenRegister, Parts, add_listed, chain_cells, clock_roots, gater_output_marks, listed, marks, order,
+    push_forced, uses,
 };
 use cg_cell::name::Name;
 use cg_net::id::NetId;
 use cg_netlist::cycles::{cell_ranks, unranked_marks};
 use cg_netlist::netlist::Netlist;
+use cg_netlist::parts::Logic;
 use cg_netlist_parts::fault::NetFault;
 use std::alloc::{AllocError, Global};
 
@@ -36,17 +41,92 @@ pub(crate) fn finished(alloc: Global, model: Name, told: Parts) -> Result<Netlis
         → MatchResult result (λ netlist. Says model parts netlist) (λ fault. (fault ≡ NoMemory) ⊎ IsFault parts fault) }
 {
     let ranks = cell_ranks(alloc, told.names.len(), &told.cells)?;
-    check(alloc, &told, &ranks)?;
+    let (told, cyclic) = with_cycles(alloc, told, &ranks)?;
+    finished_with(alloc, model, told, &ranks, &cyclic)
+}
+
+/// The netlist of the parts, whose logic cells have these ranks, or the first fault of them, where these nets follow from cycles.
+fn finished_with(
+    alloc: Global,
+    model: Name,
+    told: Parts,
+    ranks: &[Option<usize>],
+    cyclic: &[bool],
+) -> Result<Netlist, NetFault>
+    requires heard { IsHeard model told }
+    requires ranks { ranks.now ≡ ranks_of told.cells }
+    requires cyclic { AreMarksOf cyclic.now (length told.names) (is_behind_cycle told) }
+    ensures { (parts : List Part) → said parts ≡ seen told
+        → MatchResult result (λ netlist. Says model parts netlist) (λ fault. (fault ≡ NoMemory) ⊎ IsFault parts fault) }
+{
+    check(alloc, &told, cyclic)?;
     let parts = in_net_order(alloc, model, told)?;
-    let netlist = Netlist::with_ranks(alloc, parts, &ranks)?;
+    let netlist = Netlist::with_ranks(alloc, parts, ranks)?;
     Ok(netlist)
 }
 
+/// The parts, whose logic cells have these ranks, and marks on the nets that follow from a cycle within a moment.
+fn with_cycles(
+    alloc: Global,
+    told: Parts,
+    ranks: &[Option<usize>],
+) -> Result<(Parts, Vec<bool>), AllocError>
+    requires numbers { AreNumbers told }
+    requires ranks { ranks.now ≡ ranks_of told.cells }
+    ensures { IfOk result (λ both. (both.0 ≡ told) × AreMarksOf both.1.items (length told.names) (is_behind_cycle told)) }
+{
+    let mut told = told;
+    let count = told.names.len();
+    let marks = cyclic_marks(alloc, count, &mut told.cells, &told.registers, ranks)?;
+    Ok((told, marks))
+}
+
+/// Marks on the nets, of so many, that follow from a cycle of logic cells and of registers with controls. The latter stand among the
+/// logic cells meanwhile, a cell for each of their outputs; where there are none, the ranks of the logic cells tell.
+fn cyclic_marks(
+    alloc: Global,
+    count: usize,
+    cells: &mut Vec<Logic>,
+    registers: &[OpenRegister],
+    ranks: &[Option<usize>],
+) -> Result<Vec<bool>, AllocError>
+    requires cells { AllByRecursion (CellWithin count) cells.old.items }
+    requires registers { AllByRecursion (OpenWithin count) registers.now }
+    requires ranks { ranks.now ≡ ranks_of cells.old.items }
+    ensures marks { IfOk result (λ marks. AreMarksOf marks.items count (is_unranked (settling_cells cells.old.items registers.now))) }
+    ensures same { OnOk result (cells.new.items ≡ cells.old.items) }
+{
+    let own = cells.len();
+    push_forced(cells, registers)?;
+    let marks = marks_by(alloc, count, cells, own, ranks)?;
+    cells.truncate(own);
+    Ok(marks)
+}
+
+/// Marks on the nets whose driver is a cell without a rank, where the first `own` cells alone have these ranks.
+fn marks_by(
+    alloc: Global,
+    count: usize,
+    cells: &[Logic],
+    own: usize,
+    ranks: &[Option<usize>],
+) -> Result<Vec<bool>, AllocError>
+    requires cells { AllByRecursion (CellWithin count) cells.now }
+    requires ranks { ranks.now ≡ ranks_of (take own cells.now) }
+    ensures { IfOk result (λ marks. AreMarksOf marks.items count (is_unranked cells.now)) }
+{
+    if cells.len() == own {
+        return unranked_marks(alloc, count, cells, ranks);
+    }
+    let all = cell_ranks(alloc, count, cells)?;
+    unranked_marks(alloc, count, cells, &all)
+}
+
 /// Looks for the faults of the parts, in their order.
-fn check(alloc: Global, told: &Parts, ranks: &[Option<usize>]) -> Result<(), NetFault>
+fn check(alloc: Global, told: &Parts, cyclic: &[bool]) -> Result<(), NetFault>
     requires numbers { AreNumbers told.now }
     requires named { All (λ name. IsTrue (is_name name)) told.now.names }
-    requires ranks { ranks.now ≡ ranks_of told.now.cells }
+    requires cyclic { AreMarksOf cyclic.now (length told.now.names) (is_behind_cycle told.now) }
     ensures { (parts : List Part) → said parts ≡ seen told.now
         → MatchResult result (λ _. IsFaultless parts) (λ fault. (fault ≡ NoMemory) ⊎ IsFault parts fault) }
 {
@@ -55,7 +135,7 @@ fn check(alloc: Global, told: &Parts, ranks: &[Option<usize>]) -> Result<(), Net
     check_drivers(alloc, told, &drivers)?;
     let used = used_marks(alloc, told)?;
     check_uses(alloc, told, &drivers, &used)?;
-    check_cycles(alloc, told, ranks)?;
+    check_cycles(alloc, told, cyclic)?;
     let roots = clock_roots(alloc, told)?;
     check_clocks(alloc, told, &roots, &used)?;
     if lacks_clock(told, &roots) {
@@ -102,15 +182,14 @@ fn check_uses(alloc: Global, told: &Parts, drivers: &[NetId], used: &[bool]) -> 
     }
 }
 
-/// Looks for a net that is the output of a logic cell without a rank.
-fn check_cycles(alloc: Global, told: &Parts, ranks: &[Option<usize>]) -> Result<(), NetFault>
+/// Looks for a net that follows from a cycle.
+fn check_cycles(alloc: Global, told: &Parts, cyclic: &[bool]) -> Result<(), NetFault>
     requires numbers { AreNumbers told.now }
     requires named { All (λ name. IsTrue (is_name name)) told.now.names }
-    requires ranks { ranks.now ≡ ranks_of told.now.cells }
+    requires cyclic { AreMarksOf cyclic.now (length told.now.names) (is_behind_cycle told.now) }
     ensures { FindsFirstFault told.now Cycle (is_behind_cycle told.now) result }
 {
-    let unranked = unranked_marks(alloc, told.names.len(), &told.cells, ranks)?;
-    match first_marked(&unranked) {
+    match first_marked(cyclic) {
         None => Ok(()),
         Some(net) => Err(NetFault::Cycle(name_of(alloc, told, net)?)),
     }

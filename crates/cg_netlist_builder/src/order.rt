@@ -133,6 +133,7 @@ fn on_clock(register: OpenRegister, clock: &Option<NetId>) -> Register
 {
     let OpenRegister {
         inputs,
+        controls,
         outputs,
         pins,
         clock: own,
@@ -141,6 +142,7 @@ fn on_clock(register: OpenRegister, clock: &Option<NetId>) -> Register
     } = register;
     Register {
         inputs,
+        controls,
         outputs,
         pins,
         clock: own_or(own, clock),
@@ -236,6 +238,7 @@ fn renumber_register(places: &[NetId], register: &mut Register)
     ensures { register.new ≡ map_register (number_in places.now) register.old }
 {
     renumber(places, &mut register.inputs);
+    renumber(places, &mut register.controls);
     renumber_outputs(places, &mut register.outputs);
     register.clock = number(places, register.clock);
 }

@@ -1,13 +1,15 @@
 //! The parts that a builder was told, by the numbers of their nets, and these nets by what they are to them.
 
-ghost use Rattle.std.specs.Prelude.{◌≡◌, ◌≤◌, MatchResult, length, ◌<◌, ◌++◌, ◌∷◌, [], if◌then◌else◌, nat_eq, not, map, IfOk, OnOk};
+ghost use Rattle.std.specs.Prelude.{◌≡◌, ◌≤◌, MatchResult, length, ◌<◌, ◌++◌, ◌∷◌, [], Bool, if◌then◌else◌, nat_eq, not, map, IfOk, OnOk};
 ghost use Rattle.std.specs.List.{All, AllByRecursion, filter, flat_map};
 ghost use Rattle.std.specs.Option.{option_to_list};
 ghost use Rattle.cg_limit.specs.declared.TheConstants.{MOST_REGISTERS};
 ghost use Rattle.cg_net.specs.Marks.{AreMarksOf, is_marked};
 ghost use Rattle.cg_net.specs.NetSets.{is_in};
 ghost use Rattle.cg_netlist.specs.Chains.{chain};
-ghost use Rattle.cg_netlist.specs.Circuit.{asked_nets};
+ghost use Rattle.cg_netlist.specs.Circuit.{asked_nets, read_nets};
+ghost use Rattle.cg_netlist.specs.Moment.{is_controlled};
+ghost use Rattle.cg_netlist.specs.Settling.{forced_cell, forced_cells, settling_cells};
 ghost use Rattle.cg_netlist.specs.Wiring.{driven_by_cells, driven_by_gaters, driven_by_registers};
 ghost use Rattle.cg_netlist_builder.specs.Inits.{init_given};
 ghost use Rattle.cg_netlist_builder.specs.inner.Heard.{Fails, Hears, no_numbers};
@@ -16,6 +18,8 @@ ghost use Rattle.cg_netlist_builder.specs.inner.Words.{part_said};
 
 use crate::adding::{PartWords, add_gater, add_logic, add_net, add_placed, add_register};
 use crate::inits::give_inits;
+use cg_cell::cover::Cover;
+use cg_cell::rows::CoverRows;
 use cg_limit::MOST_NETS;
 use cg_net::id::NetId;
 use cg_net::names::NetNames;
@@ -25,6 +29,7 @@ use cg_netlist::fault::AddFault;
 use cg_netlist::parts::{
     Gater, InputNets, Logic, LogicFunction, OutputNets, OutputPins, RegisterKind,
 };
+use smallvec::SmallVec;
 use std::alloc::{AllocError, Global};
 use std::marker::Model;
 
@@ -32,6 +37,7 @@ use std::marker::Model;
 #[derive(Drop)]
 pub(crate) struct OpenRegister {
     pub(crate) inputs: InputNets,
+    pub(crate) controls: InputNets,
     pub(crate) outputs: OutputNets,
     pub(crate) pins: OutputPins,
     pub(crate) clock: Option<NetId>,
@@ -49,7 +55,7 @@ impl Model for OpenRegister {
 
     ghost coded = { Prim.hlevel (codes, term_code) };
 
-    ghost view = { λ r. record { inputs = r.inputs.items; outputs = r.outputs.items; pins = r.pins.items; clock = r.clock; kind = r.kind; init = r.init } };
+    ghost view = { λ r. record { inputs = r.inputs.items; controls = r.controls.items; outputs = r.outputs.items; pins = r.pins.items; clock = r.clock; kind = r.kind; init = r.init } };
 }
 
 /// What parts have said so far. The number of a net is its place in the order of first mention.
@@ -173,7 +179,7 @@ pub(crate) fn uses(alloc: Global, told: &Parts) -> Result<Vec<NetId>, AllocError
     let mut nets = Vec::new(alloc);
     add_cell_inputs(&mut nets, &told.cells)?;
     add_asked(&mut nets, &told.gaters)?;
-    add_register_inputs(&mut nets, &told.registers)?;
+    add_register_reads(&mut nets, &told.registers)?;
     add_listed(&mut nets, &told.outputs)?;
     Ok(nets)
 }
@@ -228,6 +234,66 @@ pub(crate) fn chain_cells(alloc: Global, told: &Parts) -> Result<Vec<Logic>, All
     ensures { IfOk result (λ cells. cells.items ≡ chain told.now.gaters) }
 {
     chain_of(alloc, &told.gaters)
+}
+
+/// Puts the registers with controls behind logic cells, a cell for each of their outputs, which follows from the nets of the control
+/// within a moment.
+pub(crate) fn push_forced(
+    cells: &mut Vec<Logic>,
+    registers: &[OpenRegister],
+) -> Result<(), AllocError>
+    ensures { OnOk result (cells.new.items ≡ settling_cells cells.old.items registers.now) }
+{
+    for register in registers {
+        push_register(cells, register)?;
+    }
+    Ok(())
+}
+
+/// Puts the cells of a register behind others, where it has controls.
+fn push_register(cells: &mut Vec<Logic>, register: &OpenRegister) -> Result<(), AllocError>
+    ensures { OnOk result (cells.new.items ≡ cells.old.items ++ forced_cells register.now) }
+{
+    if !is_controlled(&register.kind) {
+        return Ok(());
+    }
+    push_outputs(cells, &register.controls, &register.outputs)
+}
+
+/// Whether a register of this kind has a clear or a preset.
+fn is_controlled(kind: &RegisterKind) -> bool
+    ensures { result ≡ is_controlled kind.now }
+{
+    match kind {
+        RegisterKind::Plain => false,
+        RegisterKind::Flop(cell) => cell.has_control(),
+    }
+}
+
+/// Puts a cell for each output of a register behind others, over the nets of its control.
+fn push_outputs(
+    cells: &mut Vec<Logic>,
+    controls: &[NetId],
+    outputs: &[(NetId, bool)],
+) -> Result<(), AllocError>
+    ensures { OnOk result (cells.new.items ≡ cells.old.items ++ map (forced_cell controls.now) outputs.now) }
+{
+    let alloc = *cells.allocator();
+    for output in outputs {
+        cells.push(forced_cell(alloc, controls, output.0)?)?;
+    }
+    Ok(())
+}
+
+/// A net that follows from control nets, as a logic cell.
+fn forced_cell(alloc: Global, controls: &[NetId], output: NetId) -> Result<Logic, AllocError>
+    ensures { IfOk result (λ cell. (inverse : Bool) → cell ≡ forced_cell controls.now (output, inverse)) }
+{
+    Ok(Logic {
+        inputs: SmallVec::from_slice(alloc, controls)?,
+        output,
+        function: LogicFunction::Cover(Cover::new(CoverRows::new(alloc), true)?),
+    })
 }
 
 /// The nets of a set, in their order.
@@ -322,12 +388,13 @@ fn add_asked(nets: &mut Vec<NetId>, gaters: &[Gater]) -> Result<(), AllocError>
     Ok(())
 }
 
-/// Puts the inputs of registers behind the nets.
-fn add_register_inputs(nets: &mut Vec<NetId>, registers: &[OpenRegister]) -> Result<(), AllocError>
-    ensures { OnOk result (nets.new.items ≡ nets.old.items ++ flat_map (λ register. register.inputs) registers.now) }
+/// Puts the nets that registers read behind the nets: their inputs, and those of their controls.
+fn add_register_reads(nets: &mut Vec<NetId>, registers: &[OpenRegister]) -> Result<(), AllocError>
+    ensures { OnOk result (nets.new.items ≡ nets.old.items ++ flat_map (λ register. read_nets register) registers.now) }
 {
     for register in registers {
         nets.extend_from_slice(&register.inputs)?;
+        nets.extend_from_slice(&register.controls)?;
     }
     Ok(())
 }

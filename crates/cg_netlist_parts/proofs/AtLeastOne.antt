@@ -1,6 +1,6 @@
 -- Parts without a fault say the netlist that is made of them.
-use Rattle.std.specs.Prelude.{◌≡◌, ℕ, true, false, IsTrue, List, [], ◌∷◌, map, Option, None, Some, nat_eq}
-use Rattle.std.proofs.Common.{refl, ap, ◌∙◌, sym, inl, inr}
+use Rattle.std.specs.Prelude.{◌≡◌, ℕ, true, false, IsTrue, List, [], ◌∷◌, map, length, take, Option, None, Some, nat_eq}
+use Rattle.std.proofs.Common.{refl, ap, ◌∙◌, sym, subst, inl, inr}
 use Rattle.std.specs.List.{All, AllByRecursion, flat_map}
 use Rattle.std.specs.Option.{option_map, option_to_list}
 use Rattle.std.specs.Str.{bytes_eq}
@@ -9,6 +9,7 @@ use Rattle.std.proofs.lemmas.List.{length-map}
 use Rattle.std.proofs.lemmas.List.Elements.{All-nil, All-cons}
 use Rattle.cg_cell.specs.Name.{is_name}
 use Rattle.cg_netlist.proofs.Driven.{driven_in_order}
+use Rattle.cg_netlist.proofs.Settling.{cells_ranked, registers_ranked, numbers as control_numbers}
 use Rattle.cg_net.proofs.Members.{is_in_cases, is_in_left, is_in_right}
 use Rattle.cg_netlist_parts.proofs.ByKind.{has_once, kind_each, picks_cell, picks_gater, picks_register}
 use Rattle.cg_netlist_parts.proofs.ChainedParts.{all_reach, chained, chains_long, chains_of, gate_is}
@@ -24,13 +25,15 @@ use Rattle.cg_netlist_parts.proofs.OrderedParts.{clock_holds, clocks_there, diff
 use Rattle.cg_netlist_parts.proofs.OrderedParts.{root_clock, root_first, root_is, root_ordered, rooted, use_ordered, used_numbered}
 use Rattle.cg_netlist_parts.proofs.OrderedParts.{wired_back}
 use Rattle.cg_netlist_parts.proofs.RankedParts.{all_end, ranks_long, ranks_of, rising}
-use Rattle.cg_netlist.specs.Circuit.{RegisterCell}
+use Rattle.cg_netlist_parts.proofs.SettlingParts.{settling_mapped, settling_on}
+use Rattle.cg_netlist.specs.Circuit.{Circuit, RegisterCell}
 use Rattle.cg_net.specs.NetSets.{is_in}
 use Rattle.cg_net.specs.Names.{NetName, is_known, name_place}
-use Rattle.cg_netlist.specs.WellFormed.{IsWellFormed}
+use Rattle.cg_netlist.specs.Settling.{settling as settling_of}
+use Rattle.cg_netlist.specs.WellFormed.{AreRanks, IsWellFormed, RegisterFits}
 use Rattle.cg_netlist_parts.specs.Faults.{IsFaultless}
 use Rattle.cg_netlist_parts.specs.Part.{GaterPart, Logic, Part, Register, cell_in, cells, clock_of, clock_pins, gater_in, gaters, mentioned}
-use Rattle.cg_netlist_parts.specs.Part.{on_clock, register_in, registers, roots, uses, wired}
+use Rattle.cg_netlist_parts.specs.Part.{on_clock, register_in, registers, roots, settling, uses, wired}
 use Rattle.cg_netlist_parts.specs.Says.{AreTaken, IsPart, PartFits, Says, netlist_of}
 use Rattle.cg_netlist.specs.Wiring.{Wiring, driven_by_gaters, map_cell, map_gater, map_register, map_wiring, order_of}
 
@@ -118,6 +121,27 @@ module _ (model : List ℕ) (parts : List Part) (taken : AreTaken model parts) (
   abbrev numbers : List ℕ
   numbers = chains_of parts fine (gaters parts) (all_reach parts fine)
 
+  -- one list of numbers for all that settles within a moment
+  abbrev c : Circuit
+  c = netlist_of model parts
+
+  fitting : All RegisterFits c.registers
+  fitting = registers_fit place (clock_of parts) (registers parts) (kind_each register_in (λ r. Register r) picks_register PartFits parts fits_each)
+
+  abbrev heights : List ℕ
+  heights = (ranks_of parts fine) (settling parts) (all_end parts fine)
+
+  settling_is : settling_of c ≡ map (map_cell place) (settling parts)
+  settling_is =
+      settling_mapped place (cells parts) (map (on_clock (clock_of parts)) (registers parts))
+      ∙ ap (map (map_cell place)) (settling_on (clock_of parts) (cells parts) (registers parts))
+
+  settled : AreRanks (settling_of c) heights
+  settled = subst (λ ks. AreRanks ks heights) (sym settling_is) (record {
+    count = (ranks_long parts fine) (settling parts) (all_end parts fine) ∙ sym (length-map (settling parts) (map_cell place));
+    rising = (rising parts fine);
+  })
+
   formed : IsWellFormed (netlist_of model parts)
   formed = record {
     model = taken.model_named;
@@ -125,11 +149,13 @@ module _ (model : List ℕ) (parts : List Part) (taken : AreTaken model parts) (
     different = (different parts fine);
     functions = cells_fit place (cells parts) (kind_each cell_in (λ k. Logic k) picks_cell PartFits parts fits_each);
     gating = gaters_fit place (gaters parts) (kind_each gater_in (λ g. GaterPart g) picks_gater PartFits parts fits_each);
-    fitting = registers_fit place (clock_of parts) (registers parts) (kind_each register_in (λ r. Register r) picks_register PartFits parts fits_each);
+    fitting = fitting;
     used = (used_numbered parts fine);
     driven = driven_in_order (netlist_of model parts) (in_order parts fine);
-    ranks = (ranks_of parts fine) (cells parts) (all_end parts fine);
-    ranked = record { count = (ranks_long parts fine) (cells parts) (all_end parts fine) ∙ sym (length-map (cells parts) (map_cell place)); rising = (rising parts fine) };
+    ranks = take (length c.cells) heights;
+    ranked = cells_ranked c fitting heights settled;
+    control_ranks = control_numbers c fitting heights settled;
+    forcing = registers_ranked c fitting heights settled;
     numbers = numbers;
     chained = record { count = (chains_long parts fine) (gaters parts) (all_reach parts fine) ∙ sym (length-map (gaters parts) (map_gater place)); chained = (chained parts fine) };
     clocked = from_recursion (λ r. is_in carriers r.clock ≡ true) (map (map_register place) (map (on_clock (clock_of parts)) (registers parts))) (clocked (registers parts) (clocks_there parts fine));

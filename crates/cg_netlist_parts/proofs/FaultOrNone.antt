@@ -12,7 +12,7 @@ use Rattle.cg_netlist_parts.proofs.WaysEnd.{ends_bounded}
 use Rattle.cg_net.specs.Names.{NetName, is_known}
 use Rattle.cg_netlist_parts.specs.Faults.{HasClock, IsClockProper, IsDrivenIfUsed, IsDrivenOnce, IsEnding, IsFault, IsFaultless, IsFirstNot}
 use Rattle.cg_netlist_parts.specs.Faults.{IsGaterProper, IsRootProper, ends_within}
-use Rattle.cg_netlist_parts.specs.Part.{Part, cells, clocks, drivers, gaters, inputs, is_gater_output, nets, registers, roots, uses}
+use Rattle.cg_netlist_parts.specs.Part.{Part, cells, clocks, drivers, gaters, inputs, is_gater_output, nets, registers, roots, settling, uses}
 
 -- a fact holds, or does not
 abbrev pub Tells : Type 0 → Type 0
@@ -71,9 +71,9 @@ module _ (parts : List Part) where
   driven_tells x = tells_if (is_known (uses parts) x ≡ true) (is_known (drivers parts) x ≡ true) (tells_bool (is_known (uses parts) x) true) (tells_bool (is_known (drivers parts) x) true)
 
   ending_tells : (x : NetName) → Tells (IsEnding parts x)
-  ending_tells x = elim (cases_Bool (ends_within (cells parts) (length (cells parts)) x)) [
-    | inl ends ↦ inl (length (cells parts), ends)
-    | inr endless ↦ inr (λ is. both_ways (ends_within (cells parts) (length (cells parts)) x) endless (ends_bounded (cells parts) is.0 x is.1))
+  ending_tells x = elim (cases_Bool (ends_within (settling parts) (length (settling parts)) x)) [
+    | inl ends ↦ inl (length (settling parts), ends)
+    | inr endless ↦ inr (λ is. both_ways (ends_within (settling parts) (length (settling parts)) x) endless (ends_bounded (settling parts) is.0 x is.1))
   ]
 
   root_tells : (x : NetName) → Tells (IsRootProper parts x)

@@ -1,6 +1,6 @@
 -- What parts ask of their cells and of their counts stays with other nets.
 use Rattle.std.specs.Prelude.{◌≡◌, ◌<◌, ◌≤◌, ◌^◌, ℕ, Bool, if◌then◌else◌, List, [], ◌∷◌, map, length, Option, None, Some}
-use Rattle.std.proofs.Common.{refl, ap, ◌∙◌, sym, subst}
+use Rattle.std.proofs.Common.{refl, ap, ◌∙◌, sym, subst, arith}
 use Rattle.std.specs.List.{All, AllByRecursion, AllZip}
 use Rattle.std.specs.List.Sorted.{IsStrictlyIncreasing}
 use Rattle.std.specs.Option.{option_map, option_to_list}
@@ -11,7 +11,8 @@ use Rattle.cg_cell.specs.declared.cell.Role.TheVariants.{State, StateBar}
 use Rattle.cg_netlist.specs.declared.parts.RegisterKind.{RegisterKind}
 use Rattle.cg_netlist.specs.declared.parts.RegisterKind.TheVariants.{Plain, Flop}
 use Rattle.cg_netlist.specs.Circuit.{GatingCell, LogicCell, RegisterCell}
-use Rattle.cg_netlist.specs.WellFormed.{FitsKind, IsOver, RegisterFits, ShowsAsPin}
+use Rattle.cg_netlist.specs.WellFormed.{Agree, FitsKind, IsOver, RegisterFits, ShowsAsPin}
+use Rattle.cg_netlist.proofs.RegisterKept.{agree_kept}
 use Rattle.cg_netlist_parts.specs.Part.{on_clock}
 use Rattle.cg_netlist_parts.specs.Says.{CellFits, GaterFits}
 use Rattle.cg_net.specs.Names.{NetName}
@@ -20,6 +21,8 @@ use Rattle.cg_netlist.specs.Wiring.{map_cell, map_gater, map_outputs, map_regist
 -- two registers that differ in their nets alone
 pub record SameButNets {N K M L : Type 0} (r : RegisterCell N K) (s : RegisterCell M L) : Type 0 where
   pub inputs : length r.inputs ≡ length s.inputs
+  pub controls : length r.controls ≡ length s.controls
+  pub agree : (pins : List PinData) → Agree pins r.inputs r.controls → Agree pins s.inputs s.controls
   pub outputs : map (λ output. output.1) r.outputs ≡ map (λ output. output.1) s.outputs
   pub pins : r.pins ≡ s.pins
   pub kind : r.kind ≡ s.kind
@@ -41,11 +44,15 @@ module _ {N K M L : Type 0} (r : RegisterCell N K) (s : RegisterCell M L) (same 
   long : length r.outputs ≡ length s.outputs
   long = sym (length-map r.outputs (λ (o : N × Bool). o.1)) ∙ (ap length same.outputs ∙ length-map s.outputs (λ (o : M × Bool). o.1))
 
+  none_left : (nets : List M) → length nets ≡ 0 → nets ≡ []
+  none_left [] long = refl
+  none_left (net ∷ nets) long = absurd (omega (arith, long))
+
   kind_alike : (kind : RegisterKind) → FitsKind kind r → FitsKind kind s
-  kind_alike Plain fits = (sym same.inputs ∙ fits.0, sym same.outputs ∙ fits.1, sym same.pins ∙ fits.2)
+  kind_alike Plain fits = (sym same.inputs ∙ fits.0, none_left s.controls (sym same.controls ∙ ap length fits.1), sym same.outputs ∙ fits.2, sym same.pins ∙ fits.3)
   kind_alike (Flop cell) fits =
-      let places : AllZip (ShowsAsPin cell.pins) s.outputs r.pins = shown_alike cell.pins r.outputs s.outputs r.pins same.outputs fits.4 in
-      (fits.0, fits.1, fits.2 ∙ same.inputs, subst (λ n. 1 ≤ n) long fits.3, subst (λ ps. AllZip (ShowsAsPin cell.pins) s.outputs ps) same.pins places, subst IsStrictlyIncreasing same.pins fits.5)
+      let places : AllZip (ShowsAsPin cell.pins) s.outputs r.pins = shown_alike cell.pins r.outputs s.outputs r.pins same.outputs fits.6 in
+      (fits.0, fits.1, fits.2 ∙ same.inputs, fits.3 ∙ same.controls, same.agree cell.pins fits.4, subst (λ n. 1 ≤ n) long fits.5, subst (λ ps. AllZip (ShowsAsPin cell.pins) s.outputs ps) same.pins places, subst IsStrictlyIncreasing same.pins fits.7)
 
   pub fits_alike : RegisterFits r → RegisterFits s
   fits_alike fits = record {
@@ -60,7 +67,7 @@ module _ {N M : Type 0} (f : N → M) where
   inverted_kept (o ∷ os) = ap (λ bs. o.1 ∷ bs) (inverted_kept os)
 
   pub register_mapped : (r : RegisterCell N N) → SameButNets r (map_register f r)
-  register_mapped r = record { inputs = sym (length-map r.inputs f); outputs = inverted_kept r.outputs; pins = refl; kind = refl; init = refl }
+  register_mapped r = record { inputs = sym (length-map r.inputs f); controls = sym (length-map r.controls f); agree = λ pins all. agree_kept f pins r.inputs r.controls all; outputs = inverted_kept r.outputs; pins = refl; kind = refl; init = refl }
 
   option_long : (o : Option N) → length (option_to_list o) ≡ length (option_to_list (option_map f o))
   option_long None = refl
@@ -87,5 +94,5 @@ module _ {N M : Type 0} (f : N → M) where
 pub registers_fit : {M : Type 0} (f : NetName → M) (k : Option NetName) (rs : List (RegisterCell NetName (Option NetName))) → AllByRecursion RegisterFits rs → All (λ (r : RegisterCell M M). RegisterFits r) (map (map_register f) (map (on_clock k) rs))
 registers_fit {M} f k [] all = All-nil (λ (r : RegisterCell M M). RegisterFits r)
 registers_fit {M} f k (r ∷ rs) all =
-    let on : RegisterFits (on_clock k r) = fits_alike r (on_clock k r) (record { inputs = refl; outputs = refl; pins = refl; kind = refl; init = refl }) all.0 in
+    let on : RegisterFits (on_clock k r) = fits_alike r (on_clock k r) (record { inputs = refl; controls = refl; agree = λ pins is. is; outputs = refl; pins = refl; kind = refl; init = refl }) all.0 in
     All-cons (λ (s : RegisterCell M M). RegisterFits s) (map_register f (on_clock k r)) (map (map_register f) (map (on_clock k) rs)) (fits_alike (on_clock k r) (map_register f (on_clock k r)) (register_mapped f (on_clock k r)) on) (registers_fit f k rs all.1)

@@ -19,6 +19,7 @@ pub record GaterNets {N : Type 0} (P : N → Type 0) (gater : GatingCell N) : Ty
 
 pub record RegisterNets {N : Type 0} (P : N → Type 0) (r : RegisterCell N N) : Type 0 where
   pub inputs : AllByRecursion P r.inputs
+  pub controls : AllByRecursion P r.controls
   pub outputs : AllByRecursion P (shown_nets r)
   pub clock : P r.clock
 
@@ -58,9 +59,10 @@ module _ {N M : Type 0} (f : N → M) (g : M → N) where
 
   register_kept : (r : RegisterCell N N) → RegisterNets IsBack r → map_register g (map_register f r) ≡ r
   register_kept r back =
-      ap (λ i. record { inputs = i; outputs = map_outputs g (map_outputs f r.outputs); pins = r.pins; clock = g (f r.clock); kind = r.kind; init = r.init }) (map_kept f g r.inputs back.inputs)
-      ∙ (ap (λ o. record { inputs = r.inputs; outputs = o; pins = r.pins; clock = g (f r.clock); kind = r.kind; init = r.init }) (outputs_kept r.outputs back.outputs)
-      ∙ ap (λ c. record { inputs = r.inputs; outputs = r.outputs; pins = r.pins; clock = c; kind = r.kind; init = r.init }) back.clock)
+      ap (λ i. record { inputs = i; controls = map g (map f r.controls); outputs = map_outputs g (map_outputs f r.outputs); pins = r.pins; clock = g (f r.clock); kind = r.kind; init = r.init }) (map_kept f g r.inputs back.inputs)
+      ∙ (ap (λ i. record { inputs = r.inputs; controls = i; outputs = map_outputs g (map_outputs f r.outputs); pins = r.pins; clock = g (f r.clock); kind = r.kind; init = r.init }) (map_kept f g r.controls back.controls)
+      ∙ (ap (λ o. record { inputs = r.inputs; controls = r.controls; outputs = o; pins = r.pins; clock = g (f r.clock); kind = r.kind; init = r.init }) (outputs_kept r.outputs back.outputs)
+      ∙ ap (λ c. record { inputs = r.inputs; controls = r.controls; outputs = r.outputs; pins = r.pins; clock = c; kind = r.kind; init = r.init }) back.clock))
 
   all_kept : {X Y : Type 0} (h : X → Y) (k : Y → X) (P : X → Type 0) → ((x : X) → P x → k (h x) ≡ x) → (xs : List X) → AllByRecursion P xs → map k (map h xs) ≡ xs
   all_kept h k P one [] all = refl
@@ -103,5 +105,5 @@ module _ {N M : Type 0} (P : N → Type 0) (Q : M → Type 0) (f : N → M) (to 
     outputs = each_mapped w.outputs is.outputs;
     cells = each_part (map_cell f) (CellNets P) (CellNets Q) (λ k k_is. record { inputs = each_mapped k.inputs k_is.inputs; output = to k.output k_is.output }) w.cells is.cells;
     gaters = each_part (map_gater f) (GaterNets P) (GaterNets Q) (λ g g_is. record { clock = to g.clock g_is.clock; asked = (to g.enable g_is.asked.0, option_mapped g.test g_is.asked.1); output = to g.output g_is.output }) w.gaters is.gaters;
-    registers = each_part (map_register f) (RegisterNets P) (RegisterNets Q) (λ r r_is. record { inputs = each_mapped r.inputs r_is.inputs; outputs = shown_mapped r.outputs r_is.outputs; clock = to r.clock r_is.clock }) w.registers is.registers;
+    registers = each_part (map_register f) (RegisterNets P) (RegisterNets Q) (λ r r_is. record { inputs = each_mapped r.inputs r_is.inputs; controls = each_mapped r.controls r_is.controls; outputs = shown_mapped r.outputs r_is.outputs; clock = to r.clock r_is.clock }) w.registers is.registers;
   }

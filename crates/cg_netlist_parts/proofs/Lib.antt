@@ -23,6 +23,7 @@ pub mod SaidByItsParts
 pub mod SaidIsNetlist
 pub mod SaidIsWritable
 pub mod SaidMore
+pub mod SettlingParts
 pub mod TakenFromNetlist
 pub mod ToldByNames
 pub mod WaysEnd

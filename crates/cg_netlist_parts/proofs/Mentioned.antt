@@ -7,11 +7,12 @@ use Rattle.cg_netlist_parts.proofs.ByKind.{filter_has, has_once, kind_mentioned,
 use Rattle.cg_netlist_parts.proofs.ByKind.{picks_input, picks_output, picks_register}
 use Rattle.cg_netlist_parts.proofs.KnownNames.{known_cases, known_left, known_right, known_tail}
 use Rattle.cg_netlist_parts.proofs.NetLists.{cell_inputs, gater_inputs, register_inputs}
-use Rattle.cg_netlist.specs.Circuit.{GatingCell, LogicCell, RegisterCell, asked_nets, shown_nets}
+use Rattle.cg_netlist_parts.proofs.SettlingParts.{settling_driven}
+use Rattle.cg_netlist.specs.Circuit.{GatingCell, LogicCell, RegisterCell, asked_nets, read_nets, shown_nets}
 use Rattle.cg_net.specs.Names.{NetName, is_known}
 use Rattle.cg_netlist_parts.specs.Part.{Clock, GaterPart, Input, Logic, Output, Part, Register, cell_in, cells, clock_in, clock_pins, clocks}
 use Rattle.cg_netlist_parts.specs.Part.{drivers, each_once, gater_in, gaters, input_in, inputs, mentioned, nets, output_in, outputs}
-use Rattle.cg_netlist_parts.specs.Part.{register_in, registers, roots, uses}
+use Rattle.cg_netlist_parts.specs.Part.{register_in, registers, roots, settling, uses}
 use Rattle.cg_netlist.specs.Wiring.{driven_by_cells, driven_by_gaters, driven_by_registers}
 
 single : (xs : List NetName) → flat_map (λ v. v ∷ []) xs ≡ xs
@@ -62,14 +63,14 @@ module _ (parts : List Part) where
   pub gater_net_mentioned : (x : NetName) → is_known (driven_by_gaters (gaters parts)) x ≡ true → In x
   gater_net_mentioned x is = gaters_mention (λ v. v.output ∷ []) (λ v y i. known_tail v.clock y (v.enable ∷ (option_to_list v.test ++ v.output ∷ [])) (known_tail v.enable y (option_to_list v.test ++ v.output ∷ []) (known_right (option_to_list v.test) (v.output ∷ []) y i))) x (as_each (λ (g : GatingCell NetName). g.output) (gaters parts) x is)
 
-  pub register_input_mentioned : (x : NetName) → is_known (flat_map (λ (r : RegisterCell NetName (Option NetName)). r.inputs) (registers parts)) x ≡ true → In x
-  register_input_mentioned = registers_mention (λ v. v.inputs) (λ v y i. known_left (v.inputs ++ shown_nets v) (option_to_list v.clock) y (known_left v.inputs (shown_nets v) y i))
+  pub register_input_mentioned : (x : NetName) → is_known (flat_map (λ (r : RegisterCell NetName (Option NetName)). read_nets r) (registers parts)) x ≡ true → In x
+  register_input_mentioned = registers_mention (λ v. read_nets v) (λ v y i. known_left (read_nets v ++ shown_nets v) (option_to_list v.clock) y (known_left (read_nets v) (shown_nets v) y i))
 
   pub register_net_mentioned : (x : NetName) → is_known (driven_by_registers (registers parts)) x ≡ true → In x
-  register_net_mentioned = registers_mention (λ v. shown_nets v) (λ v y i. known_left (v.inputs ++ shown_nets v) (option_to_list v.clock) y (known_right v.inputs (shown_nets v) y i))
+  register_net_mentioned = registers_mention (λ v. shown_nets v) (λ v y i. known_left (read_nets v ++ shown_nets v) (option_to_list v.clock) y (known_right (read_nets v) (shown_nets v) y i))
 
   pub register_clock_mentioned : (x : NetName) → is_known (flat_map (λ (r : RegisterCell NetName (Option NetName)). option_to_list r.clock) (registers parts)) x ≡ true → In x
-  register_clock_mentioned = registers_mention (λ v. option_to_list v.clock) (λ v y i. known_right (v.inputs ++ shown_nets v) (option_to_list v.clock) y i)
+  register_clock_mentioned = registers_mention (λ v. option_to_list v.clock) (λ v y i. known_right (read_nets v ++ shown_nets v) (option_to_list v.clock) y i)
 
   pub pin_mentioned : (x : NetName) → is_known (clock_pins parts) x ≡ true → In x
   pin_mentioned x is = elim (known_cases (map (λ (g : GatingCell NetName). g.clock) (gaters parts)) (flat_map (λ (r : RegisterCell NetName (Option NetName)). option_to_list r.clock) (registers parts)) x is) [
@@ -103,6 +104,9 @@ module _ (parts : List Part) where
 
   abbrev declared : List NetName
   declared = filter (λ net. not (is_known (inputs parts) net)) (clocks parts)
+
+  pub settling_mentioned : (x : NetName) → is_known (driven_by_cells (settling parts)) x ≡ true → In x
+  settling_mentioned x is = elim (settling_driven (cells parts) (registers parts) x is) [ inl cell ↦ cell_net_mentioned x cell | inr register ↦ register_net_mentioned x register ]
 
   pub driver_mentioned : (x : NetName) → is_known (drivers parts) x ≡ true → In x
   driver_mentioned x is = elim (known_cases (inputs parts ++ declared ++ driven_by_cells (cells parts) ++ driven_by_gaters (gaters parts)) (driven_by_registers (registers parts)) x is) [

@@ -11,19 +11,22 @@ use Rattle.cg_net.proofs.Members.{All-member, is_in_left, is_in_right}
 use Rattle.cg_netlist_parts.proofs.Counted.{apart_counts}
 use Rattle.cg_netlist_parts.proofs.Different.{apart_from}
 use Rattle.cg_netlist.proofs.Each.{by_recursion, each}
-use Rattle.cg_netlist_parts.proofs.Kept.{CellNets}
+use Rattle.cg_netlist_parts.proofs.Kept.{CellNets, RegisterNets}
 use Rattle.cg_netlist_parts.proofs.KnownNames.{each_known, first_step, itself, known_cases, known_each, same_word, word_at}
-use Rattle.cg_netlist_parts.proofs.NetLists.{carried_by, cell_inputs, gater_inputs, used_in}
+use Rattle.cg_netlist_parts.proofs.NetLists.{carried_by, cell_inputs, gater_inputs, register_inputs, used_in}
 use Rattle.cg_netlist_parts.proofs.OrderMapped.{cells_driven_mapped, gaters_driven_mapped, used_mapped}
-use Rattle.cg_netlist_parts.proofs.ToldByNames.{cell_net_within, clock_net_within, each_in, known_as, names_are, told, wiring_within}
-use Rattle.cg_netlist.specs.Circuit.{Circuit, GatingCell, LogicCell, RegisterCell, shown_nets}
+use Rattle.cg_netlist_parts.proofs.ToldByNames.{clock_net_within, each_in, known_as, names_are, told, wiring_within}
+use Rattle.cg_netlist.specs.Circuit.{Circuit, GatingCell, LogicCell, RegisterCell, read_nets, shown_nets}
 use Rattle.cg_net.specs.NetSets.{is_in}
 use Rattle.cg_net.specs.Names.{NetName, is_known, net_name}
-use Rattle.cg_netlist.specs.WellFormed.{IsWellFormed}
+use Rattle.cg_netlist.proofs.Settling.{settling_ranked, spread}
+use Rattle.cg_netlist.specs.Settling.{settling as settling_of, settling_cells}
+use Rattle.cg_netlist.specs.WellFormed.{AreRanks, IsWellFormed}
+use Rattle.cg_netlist_parts.proofs.SettlingParts.{settling_mapped, settling_nets, settling_on}
 use Rattle.cg_netlist_parts.specs.Faults.{HasClock, IsClockProper, IsDrivenIfUsed, IsDrivenOnce, IsEnding, IsFaultless, IsGaterProper}
 use Rattle.cg_netlist_parts.specs.Faults.{IsRootProper, ends_within, reaches}
 use Rattle.cg_netlist_parts.specs.Part.{Part, cells, clock_in, clock_of, clock_pins, clocks, drivers, each_once, gaters, inputs, nets}
-use Rattle.cg_netlist_parts.specs.Part.{on_clock, outputs, registers, roots, uses, wired}
+use Rattle.cg_netlist_parts.specs.Part.{on_clock, outputs, registers, roots, settling, uses, wired}
 use Rattle.cg_netlist_parts.specs.Says.{IsClockOf, Says}
 use Rattle.cg_netlist.specs.Wiring.{Wiring, driven_by_cells, driven_by_gaters, driven_by_registers, map_cell, map_gater}
 use Rattle.cg_netlist.specs.Wiring.{map_register, order_of, wiring}
@@ -33,12 +36,12 @@ pub shown_on : (k : Option NetName) (rs : List (RegisterCell NetName (Option Net
 shown_on k [] = refl
 shown_on k (r ∷ rs) = ap (λ xs. shown_nets r ++ xs) (shown_on k rs)
 
-pub data_on : (k : Option NetName) (rs : List (RegisterCell NetName (Option NetName))) → flat_map (λ r. r.inputs) (map (on_clock k) rs) ≡ flat_map (λ r. r.inputs) rs
-data_on k [] = refl
-data_on k (r ∷ rs) = ap (λ xs. r.inputs ++ xs) (data_on k rs)
+pub reads_on : (k : Option NetName) (rs : List (RegisterCell NetName (Option NetName))) → register_inputs (map (on_clock k) rs) ≡ register_inputs rs
+reads_on k [] = refl
+reads_on k (r ∷ rs) = ap (λ xs. read_nets r ++ xs) (reads_on k rs)
 
 pub uses_wired : (parts : List Part) → used_in (wired parts) ≡ uses parts
-uses_wired parts = ap (λ xs. cell_inputs (cells parts) ++ gater_inputs (gaters parts) ++ xs ++ outputs parts) (data_on (clock_of parts) (registers parts))
+uses_wired parts = ap (λ xs. cell_inputs (cells parts) ++ gater_inputs (gaters parts) ++ xs ++ outputs parts) (reads_on (clock_of parts) (registers parts))
 
 -- a word that is among mapped nets is that of one of them
 pub from_names : (f : ℕ → NetName) (xs : List ℕ) (word : NetName) → is_known (map f xs) word ≡ true → (x : ℕ) × (is_in xs x ≡ true) × (word ≡ f x)
@@ -130,8 +133,20 @@ module _ (model : List ℕ) (parts : List Part) (c : Circuit) (says : Says model
   clock_is = ap (λ v. v.clock) (sym says.wired_is)
 
   -- no way up is longer than ranks let it be
+  abbrev all_ranks : List ℕ
+  all_ranks = formed.ranks ++ spread c.registers formed.control_ranks
+
+  ranked : AreRanks (settling_of c) all_ranks
+  ranked = settling_ranked c formed.ranks formed.control_ranks formed.ranked formed.forcing
+
+  settling_are : settling parts ≡ map (map_cell name) (settling_of c)
+  settling_are =
+      sym (settling_on (clock_of parts) (cells parts) (registers parts))
+      ∙ (ap (λ v. settling_cells v.cells v.registers) (sym says.wired_is)
+      ∙ settling_mapped name w.cells w.registers)
+
   abbrev ranked_below : ℕ → ℕ → Type 0
-  ranked_below m x = (k : ℕ) (cell : LogicCell ℕ) → slice_get w.cells k ≡ Some cell → cell.output ≡ x → slice_index formed.ranks k < m
+  ranked_below m x = (k : ℕ) (cell : LogicCell ℕ) → slice_get (settling_of c) k ≡ Some cell → cell.output ≡ x → slice_index all_ranks k < m
 
   no_cell : (ks : List (LogicCell ℕ)) (x : ℕ) → ((k : ℕ) (cell : LogicCell ℕ) → slice_get ks k ≡ Some cell → cell.output ≡ x → ⊥) → is_in (driven_by_cells ks) x ≡ false
   no_cell [] x none = refl
@@ -140,26 +155,29 @@ module _ (model : List ℕ) (parts : List Part) (c : Circuit) (says : Says model
     | inr other ↦ ap (λ b. b || is_in (driven_by_cells ks) x) other ∙ no_cell ks x (λ j cell at is. none (suc j) cell at is)
   ]
 
-  inputs_end : (n : ℕ) (xs : List ℕ) → ((x : ℕ) → is_in xs x ≡ true → ends_within (cells parts) n (name x) ≡ true) → list_all (ends_within (cells parts) n) (map name xs) ≡ true
+  inputs_end : (n : ℕ) (xs : List ℕ) → ((x : ℕ) → is_in xs x ≡ true → ends_within (settling parts) n (name x) ≡ true) → list_all (ends_within (settling parts) n) (map name xs) ≡ true
   inputs_end n [] ends = refl
   inputs_end n (x ∷ xs) ends =
-      ap (λ b. b && list_all (ends_within (cells parts) n) (map name xs)) (ends x (or_left (nat_eq x x) (is_in xs x) (eq-eqb x x refl)))
+      ap (λ b. b && list_all (ends_within (settling parts) n) (map name xs)) (ends x (or_left (nat_eq x x) (is_in xs x) (eq-eqb x x refl)))
       ∙ inputs_end n xs (λ y i. ends y (or_right (nat_eq y x) (is_in xs y) i))
 
-  cells_end : (n x : ℕ) → Is x → (ks : List (LogicCell ℕ)) → AllByRecursion (λ (k : LogicCell ℕ). Is k.output) ks → ((k : ℕ) (cell : LogicCell ℕ) → slice_get ks k ≡ Some cell → cell.output ≡ x → list_all (ends_within (cells parts) n) (map name cell.inputs) ≡ true)
-      → list_all (λ (cell : LogicCell NetName). not (bytes_eq (name x) cell.output) || list_all (ends_within (cells parts) n) cell.inputs) (map (map_cell name) ks) ≡ true
+  cells_end : (n x : ℕ) → Is x → (ks : List (LogicCell ℕ)) → AllByRecursion (λ (k : LogicCell ℕ). Is k.output) ks → ((k : ℕ) (cell : LogicCell ℕ) → slice_get ks k ≡ Some cell → cell.output ≡ x → list_all (ends_within (settling parts) n) (map name cell.inputs) ≡ true)
+      → list_all (λ (cell : LogicCell NetName). not (bytes_eq (name x) cell.output) || list_all (ends_within (settling parts) n) cell.inputs) (map (map_cell name) ks) ≡ true
   cells_end n x lt [] within ends = refl
   cells_end n x lt (k ∷ ks) within ends =
-      ap (λ b. b && list_all (λ (cell : LogicCell NetName). not (bytes_eq (name x) cell.output) || list_all (ends_within (cells parts) n) cell.inputs) (map (map_cell name) ks))
-      (ap (λ b. not b || list_all (ends_within (cells parts) n) (map name k.inputs)) (told c.names formed.different x k.output lt within.0)
+      ap (λ b. b && list_all (λ (cell : LogicCell NetName). not (bytes_eq (name x) cell.output) || list_all (ends_within (settling parts) n) cell.inputs) (map (map_cell name) ks))
+      (ap (λ b. not b || list_all (ends_within (settling parts) n) (map name k.inputs)) (told c.names formed.different x k.output lt within.0)
       ∙ elim (cases_Bool (nat_eq x k.output)) [
-        | inl same ↦ or_right (not (nat_eq x k.output)) (list_all (ends_within (cells parts) n) (map name k.inputs)) (ends 0 k refl (sym (eqb-true x k.output same)))
-        | inr other ↦ or_left (not (nat_eq x k.output)) (list_all (ends_within (cells parts) n) (map name k.inputs)) (ap not other)
+        | inl same ↦ or_right (not (nat_eq x k.output)) (list_all (ends_within (settling parts) n) (map name k.inputs)) (ends 0 k refl (sym (eqb-true x k.output same)))
+        | inr other ↦ or_left (not (nat_eq x k.output)) (list_all (ends_within (settling parts) n) (map name k.inputs)) (ap not other)
       ])
       ∙ cells_end n x lt ks within.1 (λ j cell at is. ends (suc j) cell at is)
 
-  output_each : AllByRecursion (λ (k : LogicCell ℕ). Is k.output) w.cells
-  output_each = each (CellNets Is) (λ (k : LogicCell ℕ). Is k.output) (λ k is. is.output) w.cells (wiring_within c formed says.ordered).cells
+  nets_each : AllByRecursion (CellNets Is) (settling_of c)
+  nets_each = let all = wiring_within c formed says.ordered in settling_nets Is (RegisterNets Is) (λ r is. is.controls) (λ r is. is.outputs) w.cells w.registers all.cells all.registers
+
+  output_each : AllByRecursion (λ (k : LogicCell ℕ). Is k.output) (settling_of c)
+  output_each = each (CellNets Is) (λ (k : LogicCell ℕ). Is k.output) (λ k is. is.output) (settling_of c) nets_each
 
   inputs_at : (ks : List (LogicCell ℕ)) → AllByRecursion (CellNets Is) ks → (k : ℕ) (cell : LogicCell ℕ) → slice_get ks k ≡ Some cell → AllByRecursion Is cell.inputs
   inputs_at [] all k cell at = absurd (cc)
@@ -170,33 +188,33 @@ module _ (model : List ℕ) (parts : List Part) (c : Circuit) (says : Says model
   in_each [] x all i = absurd (both_ways false refl i)
   in_each (y ∷ xs) x all i = elim (or_cases (nat_eq x y) (is_in xs x) i) [ inl here ↦ subst Is (sym (eqb-true x y here)) all.0 | inr later ↦ in_each xs x all.1 later ]
 
-  ends_below : (m x : ℕ) → Is x → ranked_below m x → ends_within (cells parts) m (name x) ≡ true
+  outputs_are : (ks : List (LogicCell ℕ)) → AllByRecursion (λ (k : LogicCell ℕ). Is k.output) ks → AllByRecursion Is (driven_by_cells ks)
+  outputs_are [] all = tt
+  outputs_are (k ∷ ks) all = (all.0, outputs_are ks all.1)
+
+  ends_below : (m x : ℕ) → Is x → ranked_below m x → ends_within (settling parts) m (name x) ≡ true
   ends_below zero x lt below =
-      ap not (ap (λ xs. is_known xs (name x)) (ap driven_by_cells cells_are ∙ cells_driven_mapped name w.cells)
-      ∙ (known_as c.names formed.different (driven_by_cells w.cells) x (outputs_are w.cells output_each) lt
-      ∙ no_cell w.cells x (λ k cell at is. let none : ⊥ = omega (arith, below k cell at is) in none)))
-    where
-      outputs_are : (ks : List (LogicCell ℕ)) → AllByRecursion (λ (k : LogicCell ℕ). Is k.output) ks → AllByRecursion Is (driven_by_cells ks)
-      outputs_are [] all = tt
-      outputs_are (k ∷ ks) all = (all.0, outputs_are ks all.1)
+      ap not (ap (λ xs. is_known xs (name x)) (ap driven_by_cells settling_are ∙ cells_driven_mapped name (settling_of c))
+      ∙ (known_as c.names formed.different (driven_by_cells (settling_of c)) x (outputs_are (settling_of c) output_each) lt
+      ∙ no_cell (settling_of c) x (λ k cell at is. let none : ⊥ = omega (arith, below k cell at is) in none)))
   ends_below (suc m) x lt below =
-      ap (λ ks. list_all (λ (cell : LogicCell NetName). not (bytes_eq (name x) cell.output) || list_all (ends_within (cells parts) m) cell.inputs) ks) cells_are
-      ∙ cells_end m x lt w.cells output_each (λ k cell at is. inputs_end m cell.inputs (λ y i.
-      ends_below m y (in_each cell.inputs y (inputs_at w.cells (wiring_within c formed says.ordered).cells k cell at) i) (λ j driver j_at j_is.
-      let rising : slice_index formed.ranks j < slice_index formed.ranks k = formed.ranked.rising j k driver cell j_at at (ap (is_in cell.inputs) j_is ∙ i) in
-      let top : slice_index formed.ranks k < suc m = below k cell at is in
+      ap (λ ks. list_all (λ (cell : LogicCell NetName). not (bytes_eq (name x) cell.output) || list_all (ends_within (settling parts) m) cell.inputs) ks) settling_are
+      ∙ cells_end m x lt (settling_of c) output_each (λ k cell at is. inputs_end m cell.inputs (λ y i.
+      ends_below m y (in_each cell.inputs y (inputs_at (settling_of c) nets_each k cell at) i) (λ j driver j_at j_is.
+      let rising : slice_index all_ranks j < slice_index all_ranks k = ranked.rising j k driver cell j_at at (ap (is_in cell.inputs) j_is ∙ i) in
+      let top : slice_index all_ranks k < suc m = below k cell at is in
       omega (arith, rising, top))))
 
   ending : (net : NetName) → IsEnding parts net
-  ending net = elim (cases_Bool (is_known (driven_by_cells (cells parts)) net)) [
+  ending net = elim (cases_Bool (is_known (driven_by_cells (settling parts)) net)) [
     | inl driven' ↦
-        let x = from_names name (driven_by_cells w.cells) net (ap (λ xs. is_known xs net) (sym (ap driven_by_cells cells_are ∙ cells_driven_mapped name w.cells)) ∙ driven') in
-        let bound = below_bound formed.ranks in
-        (bound.0, ap (ends_within (cells parts) bound.0) x.2 ∙ ends_below bound.0 x.0 (cell_net_within c formed says.ordered x.0 x.1) (ranks_below bound.0 bound.1 x.0))
+        let x = from_names name (driven_by_cells (settling_of c)) net (ap (λ xs. is_known xs net) (sym (ap driven_by_cells settling_are ∙ cells_driven_mapped name (settling_of c))) ∙ driven') in
+        let bound = below_bound all_ranks in
+        (bound.0, ap (ends_within (settling parts) bound.0) x.2 ∙ ends_below bound.0 x.0 (in_each (driven_by_cells (settling_of c)) x.0 (outputs_are (settling_of c) output_each) x.1) (ranks_below bound.0 bound.1 x.0))
     | inr none ↦ (0, ap not none)
   ]
     where
-      ranks_below : (m : ℕ) → ((k : ℕ) → slice_index formed.ranks k < m) → (x : ℕ) → ranked_below m x
+      ranks_below : (m : ℕ) → ((k : ℕ) → slice_index all_ranks k < m) → (x : ℕ) → ranked_below m x
       ranks_below m below x k cell at is = below k
 
   -- clocks

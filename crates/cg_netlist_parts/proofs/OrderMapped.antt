@@ -5,7 +5,7 @@ use Rattle.std.specs.List.{AllByRecursion, filter, flat_map}
 use Rattle.std.specs.Option.{option_map, option_to_list}
 use Rattle.std.proofs.lemmas.List.{map-append}
 use Rattle.cg_netlist_parts.proofs.NetLists.{cell_inputs, gater_inputs, register_inputs, used_in}
-use Rattle.cg_netlist.specs.Circuit.{GatingCell, LogicCell, RegisterCell, asked_nets, shown_nets}
+use Rattle.cg_netlist.specs.Circuit.{GatingCell, LogicCell, RegisterCell, asked_nets, read_nets, shown_nets}
 use Rattle.cg_netlist_parts.specs.Part.{cells, gaters, inputs}
 use Rattle.cg_netlist.specs.Wiring.{Wiring, among, driven_by_cells, driven_by_gaters, driven_by_registers, map_cell, map_gater}
 use Rattle.cg_netlist.specs.Wiring.{map_outputs, map_register, map_wiring, order_of}
@@ -68,9 +68,11 @@ module _ {N M : Type 0} (f : N → M) where
   asks_mapped [] = refl
   asks_mapped (g ∷ gs) = ap (λ xs. f g.enable ∷ (xs ++ gater_inputs (map (map_gater f) gs))) (test_mapped g.test) ∙ (ap (λ xs. map f (asked_nets g) ++ xs) (asks_mapped gs) ∙ sym (map-append f (asked_nets g) (gater_inputs gs)))
 
-  data_mapped : (rs : List (RegisterCell N N)) → flat_map (λ r. r.inputs) (map (map_register f) rs) ≡ map f (flat_map (λ r. r.inputs) rs)
-  data_mapped [] = refl
-  data_mapped (r ∷ rs) = ap (λ xs. map f r.inputs ++ xs) (data_mapped rs) ∙ sym (map-append f r.inputs (flat_map (λ s. s.inputs) rs))
+  reads_mapped : (rs : List (RegisterCell N N)) → register_inputs (map (map_register f) rs) ≡ map f (register_inputs rs)
+  reads_mapped [] = refl
+  reads_mapped (r ∷ rs) =
+      ap (λ xs. xs ++ register_inputs (map (map_register f) rs)) (sym (map-append f r.inputs r.controls))
+      ∙ (ap (λ xs. map f (read_nets r) ++ xs) (reads_mapped rs) ∙ sym (map-append f (read_nets r) (register_inputs rs)))
 
   pub used_mapped : (w : Wiring N) → used_in (map_wiring f w) ≡ map f (used_in w)
   used_mapped w =
@@ -79,7 +81,7 @@ module _ {N M : Type 0} (f : N → M) where
       let d : List N = register_inputs w.registers in
       ap (λ xs. xs ++ gater_inputs (map (map_gater f) w.gaters) ++ register_inputs (map (map_register f) w.registers) ++ map f w.outputs) (ins_mapped w.cells)
       ∙ (ap (λ xs. map f a ++ xs ++ register_inputs (map (map_register f) w.registers) ++ map f w.outputs) (asks_mapped w.gaters)
-      ∙ (ap (λ xs. map f a ++ map f e ++ xs ++ map f w.outputs) (data_mapped w.registers)
+      ∙ (ap (λ xs. map f a ++ map f e ++ xs ++ map f w.outputs) (reads_mapped w.registers)
       ∙ sym (map-append f (a ++ e ++ d) w.outputs
       ∙ (ap (λ xs. xs ++ map f w.outputs) (map-append f (a ++ e) d)
       ∙ ap (λ xs. xs ++ map f d ++ map f w.outputs) (map-append f a e)))))

@@ -22,7 +22,7 @@ use Rattle.cg_netlist_parts.proofs.NetLists.{cell_inputs, gater_inputs, register
 use Rattle.cg_netlist_parts.proofs.NoneBeside.{one_declared, shown_on, uses_wired}
 use Rattle.cg_netlist_parts.proofs.OrderMapped.{order_mapped, used_mapped}
 use Rattle.cg_netlist_parts.proofs.ToldByNames.{nets_weaker}
-use Rattle.cg_netlist.specs.Circuit.{GatingCell, LogicCell, RegisterCell, asked_nets, shown_nets}
+use Rattle.cg_netlist.specs.Circuit.{GatingCell, LogicCell, RegisterCell, asked_nets, read_nets, shown_nets}
 use Rattle.cg_net.specs.NetSets.{is_in}
 use Rattle.cg_net.specs.Names.{NetName, is_known, net_name, name_place}
 use Rattle.cg_netlist_parts.specs.Faults.{IsClockProper, IsDrivenIfUsed, IsDrivenOnce, IsFaultless, IsRootProper}
@@ -205,15 +205,16 @@ module _ (parts : List Part) (fine : IsFaultless parts) where
   clocks_there = has_clock (registers parts) refl registers_at
 
   pub registers_on : (rs : List (RegisterCell NetName (Option NetName))) → AllByRecursion (λ (r : RegisterCell NetName (Option NetName)). AtPin r × (clock_of parts ≡ None → ⊥)) rs
-      → ((x : NetName) → is_known (flat_map (λ (r : RegisterCell NetName (Option NetName)). r.inputs) rs) x ≡ true → On x) → ((x : NetName) → is_known (driven_by_registers rs) x ≡ true → On x) → AllByRecursion (RegisterNets On) (map (on_clock (clock_of parts)) rs)
+      → ((x : NetName) → is_known (flat_map (λ (r : RegisterCell NetName (Option NetName)). read_nets r) rs) x ≡ true → On x) → ((x : NetName) → is_known (driven_by_registers rs) x ≡ true → On x) → AllByRecursion (RegisterNets On) (map (on_clock (clock_of parts)) rs)
   registers_on [] at ins outs = tt
   registers_on (r ∷ rs) at ins outs = (
     record {
-      inputs = each_known On r.inputs (λ x i. ins x (known_left r.inputs (flat_map (λ (s : RegisterCell NetName (Option NetName)). s.inputs) rs) x i));
+      inputs = each_known On r.inputs (λ x i. ins x (known_left (read_nets r) (flat_map (λ (s : RegisterCell NetName (Option NetName)). read_nets s) rs) x (known_left r.inputs r.controls x i)));
+      controls = each_known On r.controls (λ x i. ins x (known_left (read_nets r) (flat_map (λ (s : RegisterCell NetName (Option NetName)). read_nets s) rs) x (known_right r.inputs r.controls x i)));
       outputs = each_known On (shown_nets r) (λ x i. outs x (known_left (shown_nets r) (driven_by_registers rs) x i));
       clock = clock_holds On pin_ordered (λ x is. root_ordered x (root_first x is)) r.clock at.0.0 at.0.1;
     },
-    registers_on rs at.1 (λ x i. ins x (known_right r.inputs (flat_map (λ (s : RegisterCell NetName (Option NetName)). s.inputs) rs) x i)) (λ x i. outs x (known_right (shown_nets r) (driven_by_registers rs) x i)),
+    registers_on rs at.1 (λ x i. ins x (known_right (read_nets r) (flat_map (λ (s : RegisterCell NetName (Option NetName)). read_nets s) rs) x i)) (λ x i. outs x (known_right (shown_nets r) (driven_by_registers rs) x i)),
   )
 
   pub clock_on : (o : Option NetName) → clock_of parts ≡ o → AllByRecursion On (option_to_list o)

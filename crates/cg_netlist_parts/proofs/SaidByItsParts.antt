@@ -53,7 +53,7 @@ module _ {X Y : Type 0} (pick : Part → Option Y) (wrap : X → Part) where
   picked_all seen some (v ∷ vs) = ap (λ o. cons_option o (filter_map pick (map wrap vs))) (some v) ∙ ap (λ ys. seen v ∷ ys) (picked_all seen some vs)
 
 abbrev pub opened : (RegisterCell NetName NetName → Bool) → RegisterCell NetName NetName → RegisterCell NetName (Option NetName)
-opened leaves r = record { inputs = r.inputs; outputs = r.outputs; pins = r.pins; clock = (if leaves r then None else Some r.clock); kind = r.kind; init = r.init }
+opened leaves r = record { inputs = r.inputs; controls = r.controls; outputs = r.outputs; pins = r.pins; clock = (if leaves r then None else Some r.clock); kind = r.kind; init = r.init }
 
 module _ (leaves : RegisterCell NetName NetName → Bool) (w : Wiring NetName) where
   abbrev pub p1 : List Part
@@ -132,7 +132,7 @@ module _ (leaves : RegisterCell NetName NetName → Bool) (w : Wiring NetName) w
   named_clocks : (k : Option NetName) → k ≡ w.clock → (rs : List (RegisterCell NetName NetName)) → AllByRecursion IsLeft rs → map (on_clock k) (map (opened leaves) rs) ≡ rs
   named_clocks k k_is [] left = refl
   named_clocks k k_is (r ∷ rs) left =
-      let put : NetName → RegisterCell NetName NetName = λ n. record { inputs = r.inputs; outputs = r.outputs; pins = r.pins; clock = n; kind = r.kind; init = r.init } in
+      let put : NetName → RegisterCell NetName NetName = λ n. record { inputs = r.inputs; controls = r.controls; outputs = r.outputs; pins = r.pins; clock = n; kind = r.kind; init = r.init } in
       ap (λ n. put n ∷ map (on_clock k) (map (opened leaves) rs)) (go (leaves r) refl) ∙ ap (λ ss. r ∷ ss) (named_clocks k k_is rs left.1)
     where
       go : (b : Bool) → leaves r ≡ b → unwrap_or (option_or (if leaves r then None else Some r.clock) k) [] ≡ r.clock
@@ -333,7 +333,7 @@ module _ (c : Circuit) (leaves : RegisterCell NetName NetName → Bool) (is : Is
       (all_there (λ net. Clock net) Is (λ x is. (is, tt)) (option_to_list v.clock) named_nets.clock))
       (all_there (λ k. Logic k) (CellNets Is) (λ k is. each_together Is k.inputs (k.output ∷ []) is.inputs (is.output, tt)) v.cells named_nets.cells))
       (all_there (λ g. GaterPart g) (GaterNets Is) (λ g is. (is.clock, (is.asked.0, each_together Is (option_to_list g.test) (g.output ∷ []) is.asked.1 (is.output, tt)))) v.gaters named_nets.gaters))
-      (all_there (register_part leaves) (RegisterNets Is) (λ r at. each_together Is (r.inputs ++ shown_nets r) (option_to_list (if leaves r then None else Some r.clock)) (each_together Is r.inputs (shown_nets r) at.inputs at.outputs) (each_known Is (option_to_list (if leaves r then None else Some r.clock)) (λ x i. subst Is (sym (left_in leaves v r x i)) at.clock))) v.registers named_nets.registers)
+      (all_there (register_part leaves) (RegisterNets Is) (λ r at. each_together Is (r.inputs ++ r.controls ++ shown_nets r) (option_to_list (if leaves r then None else Some r.clock)) (each_together Is (r.inputs ++ r.controls) (shown_nets r) (each_together Is r.inputs r.controls at.inputs at.controls) at.outputs) (each_known Is (option_to_list (if leaves r then None else Some r.clock)) (λ x i. subst Is (sym (left_in leaves v r x i)) at.clock))) v.registers named_nets.registers)
 
   few : length (nets parts) ≤ length c.names
   few = no_more (nets parts) c.names (apart_once (flat_map mentioned parts)) (λ x i. known_each Is (flat_map mentioned parts) x all_mentioned (has_once (flat_map mentioned parts) x i))

@@ -49,7 +49,7 @@ module _ (c : Circuit) (leaves : RegisterCell NetName NetName → Bool) (is : Is
   registers_fine : (rs : List (RegisterCell ℕ ℕ)) → AllByRecursion RegisterFits rs → AllByRecursion (λ (r : RegisterCell NetName NetName). PartFits (register_part leaves r)) (map (map_register name) rs)
   registers_fine [] all = tt
   registers_fine (r ∷ rs) all = (
-    fits_alike (map_register name r) (opened leaves (map_register name r)) (record { inputs = refl; outputs = refl; pins = refl; kind = refl; init = refl }) (fits_alike r (map_register name r) (register_mapped name r) all.0),
+    fits_alike (map_register name r) (opened leaves (map_register name r)) (record { inputs = refl; controls = refl; agree = λ pins is. is; outputs = refl; pins = refl; kind = refl; init = refl }) (fits_alike r (map_register name r) (register_mapped name r) all.0),
     registers_fine rs all.1,
   )
 

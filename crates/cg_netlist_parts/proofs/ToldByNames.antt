@@ -18,7 +18,7 @@ use Rattle.cg_netlist_parts.proofs.KnownNames.{itself}
 use Rattle.cg_netlist_parts.proofs.NamePlaces.{number_is, same_net}
 use Rattle.cg_netlist_parts.proofs.NetLists.{carried_by, cell_inputs, gater_inputs, register_inputs, used_in}
 use Rattle.cg_netlist_parts.proofs.OrderMapped.{order_mapped}
-use Rattle.cg_netlist.specs.Circuit.{Circuit, GatingCell, LogicCell, RegisterCell, asked_nets, shown_nets}
+use Rattle.cg_netlist.specs.Circuit.{Circuit, GatingCell, LogicCell, RegisterCell, asked_nets, read_nets, shown_nets}
 use Rattle.cg_net.specs.NetSets.{is_in}
 use Rattle.cg_net.specs.Names.{NetName, is_known, net_name, name_place}
 use Rattle.cg_netlist.specs.Ordered.{ordered}
@@ -141,15 +141,16 @@ module _ (c : Circuit) (formed : IsWellFormed c) (ordered : IsInNetOrder c) wher
     gaters_within gs (λ k h at. clocks (suc k) h at) (λ x i. asks x (is_in_right (asked_nets g) (gater_inputs gs) x i)) (λ x i. outs x (or_right (nat_eq x g.output) (is_in (driven_by_gaters gs) x) i)),
   )
 
-  registers_within : (rs : List (RegisterCell ℕ ℕ)) → ((x : ℕ) → is_in (flat_map (λ r. r.inputs) rs) x ≡ true → Is x) → ((x : ℕ) → is_in (driven_by_registers rs) x ≡ true → Is x) → AllByRecursion (λ r. is_in (carried_by w) r.clock ≡ true) rs → AllByRecursion (RegisterNets Is) rs
+  registers_within : (rs : List (RegisterCell ℕ ℕ)) → ((x : ℕ) → is_in (register_inputs rs) x ≡ true → Is x) → ((x : ℕ) → is_in (driven_by_registers rs) x ≡ true → Is x) → AllByRecursion (λ r. is_in (carried_by w) r.clock ≡ true) rs → AllByRecursion (RegisterNets Is) rs
   registers_within [] ins outs clocks = tt
   registers_within (r ∷ rs) ins outs clocks = (
     record {
-      inputs = each_in Is r.inputs (λ x i. ins x (is_in_left r.inputs (flat_map (λ s. s.inputs) rs) x i));
+      inputs = each_in Is r.inputs (λ x i. ins x (is_in_left (read_nets r) (register_inputs rs) x (is_in_left r.inputs r.controls x i)));
+      controls = each_in Is r.controls (λ x i. ins x (is_in_left (read_nets r) (register_inputs rs) x (is_in_right r.inputs r.controls x i)));
       outputs = each_in Is (shown_nets r) (λ x i. outs x (is_in_left (shown_nets r) (driven_by_registers rs) x i));
       clock = clock_net_within r.clock clocks.0;
     },
-    registers_within rs (λ x i. ins x (is_in_right r.inputs (flat_map (λ s. s.inputs) rs) x i)) (λ x i. outs x (is_in_right (shown_nets r) (driven_by_registers rs) x i)) clocks.1,
+    registers_within rs (λ x i. ins x (is_in_right (read_nets r) (register_inputs rs) x i)) (λ x i. outs x (is_in_right (shown_nets r) (driven_by_registers rs) x i)) clocks.1,
   )
 
   -- the lists that the used nets are made of
@@ -188,7 +189,7 @@ module _ {N : Type 0} (P Q : N → Type 0) (f : (x : N) → P x → Q x) where
   gater_nets_weaker g is = record { clock = f g.clock is.clock; asked = each P Q f (asked_nets g) is.asked; output = f g.output is.output }
 
   register_nets_weaker : (r : RegisterCell N N) → RegisterNets P r → RegisterNets Q r
-  register_nets_weaker r is = record { inputs = each P Q f r.inputs is.inputs; outputs = each P Q f (shown_nets r) is.outputs; clock = f r.clock is.clock }
+  register_nets_weaker r is = record { inputs = each P Q f r.inputs is.inputs; controls = each P Q f r.controls is.controls; outputs = each P Q f (shown_nets r) is.outputs; clock = f r.clock is.clock }
 
   pub nets_weaker : (w : Wiring N) → WiringNets P w → WiringNets Q w
   nets_weaker w is = record {

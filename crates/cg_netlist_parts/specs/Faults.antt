@@ -7,7 +7,7 @@ use Rattle.cg_net.specs.Names.{NetName, is_known}
 use Rattle.cg_netlist_parts.specs.declared.fault.NetFault.{NetFault}
 use Rattle.cg_netlist_parts.specs.declared.fault.NetFault.TheVariants.{TwoDrivers, NoDriver, Cycle, ClockFault, NoClock, NoMemory}
 use Rattle.cg_netlist.specs.Circuit.{LogicCell}
-use Rattle.cg_netlist_parts.specs.Part.{Part, cells, clocks, drivers, gaters, inputs, is_gater_output, nets, registers, roots, uses}
+use Rattle.cg_netlist_parts.specs.Part.{Part, clocks, drivers, gaters, inputs, is_gater_output, nets, registers, roots, settling, uses}
 use Rattle.cg_netlist.specs.Wiring.{driven_by_cells}
 
 -- at most one of the inputs, the declared clocks and the outputs of cells drives the net
@@ -24,9 +24,9 @@ ends_within cells zero net = not (is_known (driven_by_cells cells) net)
 ends_within cells (suc n) net =
     list_all (λ cell. not (bytes_eq net cell.output) || list_all (ends_within cells n) cell.inputs) cells
 
--- the ways up from the net end: there is no cycle of logic cells in its cone
+-- the ways up from the net end: there is no cycle of logic cells and of registers with controls in its cone
 abbrev pub IsEnding : List Part → NetName → Type 0
-IsEnding parts net = (n : ℕ) × (ends_within (cells parts) n net ≡ true)
+IsEnding parts net = (n : ℕ) × (ends_within (settling parts) n net ≡ true)
 
 -- whether n clock pins of gating cells, one behind the other, lead from the net to a place where the clock may come from
 abbrev pub reaches : List Part → ℕ → NetName → Bool

@@ -4,7 +4,8 @@ use Rattle.std.specs.List.{filter, filter_map, flat_map}
 use Rattle.std.specs.Option.{option_or, option_to_list}
 use Rattle.std.specs.Str.{bytes_eq}
 use Rattle.cg_net.specs.Names.{NetName, is_known}
-use Rattle.cg_netlist.specs.Circuit.{LogicCell, GatingCell, RegisterCell, shown_nets}
+use Rattle.cg_netlist.specs.Circuit.{LogicCell, GatingCell, RegisterCell, read_nets, shown_nets}
+use Rattle.cg_netlist.specs.Settling.{settling_cells}
 use Rattle.cg_netlist.specs.Wiring.{Wiring, driven_by_cells, driven_by_gaters, driven_by_registers, used_by}
 
 -- a part: an input, an output or a clock of the netlist, a logic cell, a gating cell, or a register. A register that names no
@@ -22,15 +23,15 @@ abbrev pub each_once : List NetName → List NetName
 each_once [] = []
 each_once (name ∷ later) = name ∷ filter (λ other. not (bytes_eq other name)) (each_once later)
 
--- the nets that a part mentions: its inputs before its outputs, and a register's clock last; a gating cell's clock, enable,
--- test net and output
+-- the nets that a part mentions: its inputs before its outputs, and of a register the nets of its control between the two, and its
+-- clock last; a gating cell's clock, enable, test net and output
 abbrev pub mentioned : Part → List NetName
 mentioned (Input net) = net ∷ []
 mentioned (Output net) = net ∷ []
 mentioned (Clock net) = net ∷ []
 mentioned (Logic cell) = cell.inputs ++ cell.output ∷ []
 mentioned (GaterPart gater) = gater.clock ∷ gater.enable ∷ (option_to_list gater.test ++ gater.output ∷ [])
-mentioned (Register r) = r.inputs ++ shown_nets r ++ option_to_list r.clock
+mentioned (Register r) = read_nets r ++ shown_nets r ++ option_to_list r.clock
 
 -- the nets, in the order of their first mention
 abbrev pub nets : List Part → List NetName
@@ -81,6 +82,10 @@ gaters parts = filter_map gater_in parts
 abbrev pub registers : List Part → List (RegisterCell NetName (Option NetName))
 registers parts = filter_map register_in parts
 
+-- what settles within a moment: the logic cells, and the outputs of registers with controls
+abbrev pub settling : List Part → List (LogicCell NetName)
+settling parts = settling_cells (cells parts) (registers parts)
+
 -- what drives nets: the inputs, the declared clocks that are no inputs, and the outputs of cells; a net stands here as often
 -- as it is driven
 abbrev pub drivers : List Part → List NetName
@@ -113,6 +118,7 @@ abbrev pub on_clock : Option NetName → RegisterCell NetName (Option NetName) �
 on_clock clock r =
     record {
       inputs = r.inputs;
+      controls = r.controls;
       outputs = r.outputs;
       pins = r.pins;
       clock = unwrap_or (option_or r.clock clock) [];

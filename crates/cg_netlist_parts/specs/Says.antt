@@ -68,6 +68,7 @@ register_part leaves r =
     Register
     (record {
       inputs = r.inputs;
+      controls = r.controls;
       outputs = r.outputs;
       pins = r.pins;
       clock = (if leaves r then None else Some r.clock);

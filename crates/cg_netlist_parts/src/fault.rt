@@ -16,7 +16,8 @@ pub enum NetFault {
     /// The net is used, as an input of a cell or an output of the netlist, and nothing drives it.
     NoDriver(Name),
 
-    /// The net is the output of a logic cell in whose cone there is a cycle of logic cells.
+    /// There is a cycle within a moment behind the net, which is an output of a logic cell or of a register with clear or preset: a way
+    /// back from a logic cell to what drives its inputs, and from such a register to what drives its clear and preset, that comes back.
     Cycle(Name),
 
     /// The net is at a clock pin and no input, or there is another clock, or it is used elsewhere as well.

@@ -9,7 +9,7 @@ use Rattle.std.specs.Str.{bytes_eq}
 use Rattle.cg_cell.specs.Cell.{CellData, IsCell}
 use Rattle.cg_cell.specs.Name.{is_name}
 use Rattle.cg_cell.specs.Library.{find_cell}
-use Rattle.cg_cell.specs.Pins.{is_clock, is_data, is_enable, is_output, is_test}
+use Rattle.cg_cell.specs.Pins.{is_clock, is_control, is_data, is_enable, is_output, is_test}
 use Rattle.cg_cell.specs.declared.cell.CellKind.{CellKind}
 use Rattle.cg_cell.specs.declared.cell.CellKind.TheVariants.{Logic as LogicKind, Flop as FlopKind, Gater as GaterKind}
 use Rattle.cg_net.specs.Names.{NetName}
@@ -158,11 +158,11 @@ same_pins : (shown : List Shown) → map (λ (o : Shown). o.1) shown ≡ map (λ
 same_pins [] = refl
 same_pins (o ∷ os) = ap (λ ps. o.1 ∷ ps) (same_pins os)
 
-abbrev shown_register : CellData → List NetName → NetName → List Shown → RegisterCell NetName (Option NetName)
-shown_register cell ins clock shown = record { inputs = ins; outputs = map (λ (o : Shown). o.0) shown; pins = map (λ (o : Shown). o.1) shown; clock = Some clock; kind = Flop cell; init = 3 }
+abbrev shown_register : CellData → List NetName → List NetName → NetName → List Shown → RegisterCell NetName (Option NetName)
+shown_register cell ins ctl clock shown = record { inputs = ins; controls = ctl; outputs = map (λ (o : Shown). o.0) shown; pins = map (λ (o : Shown). o.1) shown; clock = Some clock; kind = Flop cell; init = 3 }
 
-same_register : (cell : CellData) (ins : List NetName) (clock : NetName) (shown : List Shown) (n : ℕ) → Along (slice_get cell.pins) n shown → shown_register cell ins clock shown ≡ register_of (Some cell) ins (seen_outputs shown) (Some clock) 3
-same_register cell ins clock shown n al = rw (same_outputs cell shown n al, same_pins shown) refl
+same_register : (cell : CellData) (ins ctl : List NetName) (clock : NetName) (shown : List Shown) (n : ℕ) → Along (slice_get cell.pins) n shown → shown_register cell ins ctl clock shown ≡ register_of (Some cell) ins ctl (seen_outputs shown) (Some clock) 3
+same_register cell ins ctl clock shown n al = rw (same_outputs cell shown n al, same_pins shown) refl
 
 module _ (cell : CellData) (words : List PinNet) where
   abbrev nets : List (Option NetName)
@@ -213,27 +213,27 @@ module _ (cell : CellData) (words : List PinNet) where
       pub gater_named : AllByRecursion (λ name. IsTrue (is_name name)) (mentioned (GaterPart (gater_of cell clock enable (slice_get tests 0) out)))
       gater_named = gater_part_is.named
 
-    module _ (k : cell.kind ≡ FlopKind) (ins : List NetName) (clock : NetName) (outs : List (NetName × ℕ)) (i : Some ins ≡ at_role is_data cell.pins nets) (c : Some (clock ∷ []) ≡ at_role is_clock cell.pins nets) (s : outs ≡ seen_outputs (shown_at 0 cell.pins nets)) (some : 0 < length outs) where
-      flop_is : placed_part FlopKind cell nets ≡ Some (Register (register_of (Some cell) ins outs (Some clock) 3))
-      flop_is = rw (sym i, sym c) (go (shown_at 0 cell.pins nets) (shown_along (slice_get cell.pins) 0 cell.pins nets (λ n. ap (slice_get cell.pins) (from_zero n))) s)
+    module _ (k : cell.kind ≡ FlopKind) (ins ctl : List NetName) (clock : NetName) (outs : List (NetName × ℕ)) (i : Some ins ≡ at_role is_data cell.pins nets) (j : Some ctl ≡ at_role is_control cell.pins nets) (c : Some (clock ∷ []) ≡ at_role is_clock cell.pins nets) (s : outs ≡ seen_outputs (shown_at 0 cell.pins nets)) (some : 0 < length outs) where
+      flop_is : placed_part FlopKind cell nets ≡ Some (Register (register_of (Some cell) ins ctl outs (Some clock) 3))
+      flop_is = rw (sym i, sym j, sym c) (go (shown_at 0 cell.pins nets) (shown_along (slice_get cell.pins) 0 cell.pins nets (λ n. ap (slice_get cell.pins) (from_zero n))) s)
         where
           from_zero : (n : ℕ) → 0 + n ≡ n
           from_zero n = omega arith
 
-          go : (shown : List Shown) → Along (slice_get cell.pins) 0 shown → outs ≡ seen_outputs shown → flop_part cell (Some ins) (Some (clock ∷ [])) shown ≡ Some (Register (register_of (Some cell) ins outs (Some clock) 3))
+          go : (shown : List Shown) → Along (slice_get cell.pins) 0 shown → outs ≡ seen_outputs shown → flop_part cell (Some ins) (Some ctl) (Some (clock ∷ [])) shown ≡ Some (Register (register_of (Some cell) ins ctl outs (Some clock) 3))
           go [] al is = let none : length outs ≡ 0 = ap length is in absurd (omega (arith, some, none))
-          go (q ∷ qs) al is = ap (λ (r : RegisterCell NetName (Option NetName)). Some (Register r)) (same_register cell ins clock (q ∷ qs) 0 al ∙ ap (λ os. register_of (Some cell) ins os (Some clock) 3) (sym is))
+          go (q ∷ qs) al is = ap (λ (r : RegisterCell NetName (Option NetName)). Some (Register r)) (same_register cell ins ctl clock (q ∷ qs) 0 al ∙ ap (λ os. register_of (Some cell) ins ctl os (Some clock) 3) (sym is))
 
-      flop_part_is : IsPart (Register (register_of (Some cell) ins outs (Some clock) 3))
-      flop_part_is = placed FlopKind k (Register (register_of (Some cell) ins outs (Some clock) 3)) flop_is
+      flop_part_is : IsPart (Register (register_of (Some cell) ins ctl outs (Some clock) 3))
+      flop_part_is = placed FlopKind k (Register (register_of (Some cell) ins ctl outs (Some clock) 3)) flop_is
 
-      pub flop_said : part_or (placed_part FlopKind cell nets) ≡ Ok (Register (register_of (Some cell) ins outs (Some clock) 3))
+      pub flop_said : part_or (placed_part FlopKind cell nets) ≡ Ok (Register (register_of (Some cell) ins ctl outs (Some clock) 3))
       flop_said = ap part_or flop_is
 
-      pub flop_fits : RegisterFits (register_of (Some cell) ins outs (Some clock) 3)
+      pub flop_fits : RegisterFits (register_of (Some cell) ins ctl outs (Some clock) 3)
       flop_fits = flop_part_is.fits
 
-      pub flop_named : AllByRecursion (λ name. IsTrue (is_name name)) (mentioned (Register (register_of (Some cell) ins outs (Some clock) 3)))
+      pub flop_named : AllByRecursion (λ name. IsTrue (is_name name)) (mentioned (Register (register_of (Some cell) ins ctl outs (Some clock) 3)))
       flop_named = flop_part_is.named
 
 pub ruleset kinds = kind_is

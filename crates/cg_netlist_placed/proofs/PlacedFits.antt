@@ -12,13 +12,13 @@ use Rattle.std.proofs.lemmas.List.Sums.{sum_by-cons}
 use Rattle.std.proofs.lemmas.Option.{same_Some}
 use Rattle.cg_cell.specs.Cell.{CellData, HasGaterPins, HasPins, IsCell}
 use Rattle.cg_cell.specs.Name.{are_distinct}
-use Rattle.cg_cell.specs.Pins.{PinData, is_clock, is_data, is_enable, is_output, is_state, is_test}
+use Rattle.cg_cell.specs.Pins.{PinData, is_clock, is_control, is_data, is_enable, is_output, is_state, is_test}
 use Rattle.cg_cell.specs.declared.cell.CellKind.{CellKind}
 use Rattle.cg_cell.specs.declared.cell.CellKind.TheVariants.{Logic as LogicKind, Flop as FlopKind, Gater as GaterKind, Unusable}
 use Rattle.cg_cell.specs.declared.cell.Role.{Role}
 use Rattle.cg_cell.specs.declared.cell.Role.TheVariants.{State, StateBar}
 use Rattle.cg_net.specs.Names.{NetName}
-use Rattle.cg_netlist.specs.WellFormed.{ShowsAsPin}
+use Rattle.cg_netlist.specs.WellFormed.{Agree, ShowsAsPin, behind}
 use Rattle.cg_netlist.specs.declared.parts.LogicFunction.TheVariants.{Cell}
 use Rattle.cg_netlist.specs.declared.parts.RegisterKind.TheVariants.{Flop}
 use Rattle.cg_netlist_parts.specs.Part.{Part, Logic, GaterPart, Register}
@@ -160,6 +160,24 @@ few_pins pins role few = let most = most_of pins in omega (arith, few, most)
         step true e rest = omega (arith, count_on role p ps true e, rest)
         step false e rest = omega (arith, count_on role p ps false e, rest)
 
+-- the nets that are at the pins of two roles agree at the pins that have both
+taken : (b : Bool) (o : Option NetName) (rest : Option (List NetName)) (xs : List NetName) → (if b then put_net o rest else rest) ≡ Some xs → (rest ≡ Some (behind b xs)) × (b ≡ true → o ≡ slice_get xs 0)
+taken true None None xs is = absurd (cc)
+taken true None (Some ys) xs is = absurd (cc)
+taken true (Some x) None xs is = absurd (cc)
+taken true (Some x) (Some ys) xs is =
+    let all : x ∷ ys ≡ xs = same_Some (x ∷ ys) xs is in
+    (ap (λ zs. Some (behind true zs)) all, λ b. ap (λ zs. slice_get zs 0) all)
+taken false o rest xs is = (is, λ b. absurd (both_ways false refl b))
+
+agree_at : (pins : List PinData) (nets : List (Option NetName)) (inputs controls : List NetName) → at_role is_data pins nets ≡ Some inputs → at_role is_control pins nets ≡ Some controls → Agree pins inputs controls
+agree_at [] nets inputs controls i k = tt
+agree_at (p ∷ pins) [] inputs controls i k = absurd (cc)
+agree_at (p ∷ pins) (net ∷ nets) inputs controls i k =
+    let a = taken (is_data p) net (at_role is_data pins nets) inputs i in
+    let b = taken (is_control p) net (at_role is_control pins nets) controls k in
+    (λ both. let roles = and_parts (is_data p) (is_control p) both in sym (a.1 roles.0) ∙ b.1 roles.1, agree_at pins nets (behind (is_data p) inputs) (behind (is_control p) controls) a.0 b.0)
+
 module _ (library : List CellData) (cell : CellData) (is : IsCell cell) (placed : cell_named library cell.name ≡ Some cell) where
   logic_fits : (nets : List (Option NetName)) → AreNamed nets → cell.kind ≡ LogicKind → (ins outs : Option (List NetName)) → at_role is_data cell.pins nets ≡ ins → at_role is_output cell.pins nets ≡ outs
       → (part : Part) → part_or (logic_part cell ins outs) ≡ Ok part → Fits library cell part
@@ -197,23 +215,25 @@ module _ (library : List CellData) (cell : CellData) (is : IsCell cell) (placed 
       placed part is_part
   gater_fits nets named kind clocks enables tests outs ac ae at ao part is_part = absurd (cc)
 
-  flop_fits : (nets : List (Option NetName)) → AreNamed nets → cell.kind ≡ FlopKind → (ins clocks : Option (List NetName)) (shown : List Shown) → at_role is_data cell.pins nets ≡ ins → at_role is_clock cell.pins nets ≡ clocks → shown_at 0 cell.pins nets ≡ shown
-      → (part : Part) → part_or (flop_part cell ins clocks shown) ≡ Ok part → Fits library cell part
-  flop_fits nets named kind None clocks shown i c s part e = absurd (cc)
-  flop_fits nets named kind (Some ins) None shown i c s part e = absurd (cc)
-  flop_fits nets named kind (Some ins) (Some []) shown i c s part e = absurd (cc)
-  flop_fits nets named kind (Some ins) (Some (x ∷ y ∷ cs)) shown i c s part e = absurd (cc)
-  flop_fits nets named kind (Some ins) (Some (x ∷ [])) [] i c s part e = absurd (cc)
-  flop_fits nets named kind (Some ins) (Some (x ∷ [])) (q ∷ qs) i c s part e =
+  flop_fits : (nets : List (Option NetName)) → AreNamed nets → cell.kind ≡ FlopKind → (ins asks clocks : Option (List NetName)) (shown : List Shown) → at_role is_data cell.pins nets ≡ ins → at_role is_control cell.pins nets ≡ asks → at_role is_clock cell.pins nets ≡ clocks → shown_at 0 cell.pins nets ≡ shown
+      → (part : Part) → part_or (flop_part cell ins asks clocks shown) ≡ Ok part → Fits library cell part
+  flop_fits nets named kind None asks clocks shown i k c s part e = absurd (cc)
+  flop_fits nets named kind (Some ins) None clocks shown i k c s part e = absurd (cc)
+  flop_fits nets named kind (Some ins) (Some ctl) None shown i k c s part e = absurd (cc)
+  flop_fits nets named kind (Some ins) (Some ctl) (Some []) shown i k c s part e = absurd (cc)
+  flop_fits nets named kind (Some ins) (Some ctl) (Some (x ∷ y ∷ cs)) shown i k c s part e = absurd (cc)
+  flop_fits nets named kind (Some ins) (Some ctl) (Some (x ∷ [])) [] i k c s part e = absurd (cc)
+  flop_fits nets named kind (Some ins) (Some ctl) (Some (x ∷ [])) (q ∷ qs) i k c s part e =
       let at_ins = role_is is_data cell.pins nets ins named i in
+      let at_ctl = role_is is_control cell.pins nets ctl named k in
       let at_clk = role_is is_clock cell.pins nets (x ∷ []) named c in
       let along : Along (slice_get cell.pins) 0 (q ∷ qs) = subst (Along (slice_get cell.pins) 0) s (shown_along (slice_get cell.pins) 0 cell.pins nets (λ k. ap (slice_get cell.pins) (from_zero k))) in
       let outs : AllByRecursion IsNamed (map (λ (o : NetName × Bool). o.0) (map (λ (o : Shown). o.0) (q ∷ qs))) = subst (λ os. AllByRecursion IsNamed (map (λ (o : NetName × Bool). o.0) (map (λ (o : Shown). o.0) os))) s (shown_named 0 cell.pins nets named) in
-      one_part library cell (Register (record { inputs = ins; outputs = map (λ (o : Shown). o.0) (q ∷ qs); pins = map (λ (o : Shown). o.1) (q ∷ qs); clock = Some x; kind = Flop cell; init = 3 })) refl
+      one_part library cell (Register (record { inputs = ins; controls = ctl; outputs = map (λ (o : Shown). o.0) (q ∷ qs); pins = map (λ (o : Shown). o.1) (q ∷ qs); clock = Some x; kind = Flop cell; init = 3 })) refl
       (record {
-        named = each_together IsNamed (ins ++ map (λ (o : NetName × Bool). o.0) (map (λ (o : Shown). o.0) (q ∷ qs))) (x ∷ []) (each_together IsNamed ins (map (λ (o : NetName × Bool). o.0) (map (λ (o : Shown). o.0) (q ∷ qs))) at_ins.named outs) at_clk.named;
+        named = each_together IsNamed (ins ++ ctl ++ map (λ (o : NetName × Bool). o.0) (map (λ (o : Shown). o.0) (q ∷ qs))) (x ∷ []) (each_together IsNamed (ins ++ ctl) (map (λ (o : NetName × Bool). o.0) (map (λ (o : Shown). o.0) (q ∷ qs))) (each_together IsNamed ins ctl at_ins.named at_ctl.named) outs) at_clk.named;
         fits = record {
-          kind = (is, kind, at_ins.count, omega arith, along_zip cell.pins 0 (q ∷ qs) along, along_rises (slice_get cell.pins) 0 (q ∷ qs) along);
+          kind = (is, kind, at_ins.count, at_ctl.count, agree_at cell.pins nets ins ctl i k, omega arith, along_zip cell.pins 0 (q ∷ qs) along, along_rises (slice_get cell.pins) 0 (q ∷ qs) along);
           pins = length-map (q ∷ qs) (λ (o : Shown). o.1) ∙ sym (length-map (q ∷ qs) (λ (o : Shown). o.0));
           init = omega arith;
         };
@@ -226,7 +246,7 @@ module _ (library : List CellData) (cell : CellData) (is : IsCell cell) (placed 
   kind_fits : (kind : CellKind) → cell.kind ≡ kind → (nets : List (Option NetName)) → AreNamed nets → (part : Part) → part_or (placed_part kind cell nets) ≡ Ok part → Fits library cell part
   kind_fits LogicKind k nets named part e = logic_fits nets named k (at_role is_data cell.pins nets) (at_role is_output cell.pins nets) refl refl part e
   kind_fits GaterKind k nets named part e = gater_fits nets named k (at_role is_clock cell.pins nets) (at_role is_enable cell.pins nets) (at_role is_test cell.pins nets) (at_role is_output cell.pins nets) refl refl refl refl part e
-  kind_fits FlopKind k nets named part e = flop_fits nets named k (at_role is_data cell.pins nets) (at_role is_clock cell.pins nets) (shown_at 0 cell.pins nets) refl refl refl part e
+  kind_fits FlopKind k nets named part e = flop_fits nets named k (at_role is_data cell.pins nets) (at_role is_control cell.pins nets) (at_role is_clock cell.pins nets) (shown_at 0 cell.pins nets) refl refl refl refl part e
   kind_fits Unusable k nets named part e = absurd (cc)
 
   pub fits_at : (words : List PinNet) (part : Part) → placed_at cell words ≡ Ok part → Fits library cell part

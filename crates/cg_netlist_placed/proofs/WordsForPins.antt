@@ -85,6 +85,9 @@ pins_are pins nets distinct named =
 pub at_step : (role : PinData → Bool) (p : PinData) (pins : List PinData) (net : Option NetName) (nets : List (Option NetName)) (b : Bool) → role p ≡ b → at_role role (p ∷ pins) (net ∷ nets) ≡ (if b then put_net net (at_role role pins nets) else at_role role pins nets)
 at_step role p pins net nets b is = ap (λ c. if c then put_net net (at_role role pins nets) else at_role role pins nets) is
 
+pub count_role : (role : PinData → Bool) (p : PinData) (pins : List PinData) (b : Bool) → role p ≡ b → count_by role (p ∷ pins) ≡ cond b 1 0 + count_by role pins
+count_role role p pins b is = sum_by-cons (λ z. cond (role z) 1 0) p pins ∙ ap (λ c. cond c 1 0 + count_by role pins) is
+
 pub count_step : (p : PinData) (pins : List PinData) (b : Bool) → is_data p ≡ b → count_by is_data (p ∷ pins) ≡ cond b 1 0 + count_by is_data pins
 count_step p pins b is = sum_by-cons (λ z. cond (is_data z) 1 0) p pins ∙ ap (λ c. cond c 1 0 + count_by is_data pins) is
 

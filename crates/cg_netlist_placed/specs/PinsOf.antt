@@ -1,8 +1,9 @@
 -- And back: the pins of a part's cell, with the nets at them.
-use Rattle.std.specs.Prelude.{ℕ, ◌+◌, Bool, if◌then◌else◌, nat_eq, List, [], ◌∷◌, drop, map, slice_get, Option, None, Some}
-use Rattle.cg_cell.specs.Pins.{PinData, is_clock, is_enable, is_output, is_state, is_test}
+use Rattle.std.specs.Prelude.{ℕ, ◌+◌, Bool, if◌then◌else◌, nat_eq, List, [], ◌∷◌, map, slice_get, Option, None, Some}
+use Rattle.cg_cell.specs.Pins.{PinData, is_clock, is_control, is_data, is_enable, is_output, is_state, is_test}
 use Rattle.cg_cell.specs.Cell.{CellData}
 use Rattle.cg_netlist.specs.Circuit.{GatingCell, LogicCell, RegisterCell}
+use Rattle.cg_netlist.specs.WellFormed.{behind}
 use Rattle.cg_net.specs.Names.{NetName}
 use Rattle.cg_netlist_placed.specs.PinNets.{PinNet}
 use Rattle.cg_netlist_placed.specs.Placed.{Shown}
@@ -27,8 +28,8 @@ gater_net gater pin =
     if is_clock pin then Some gater.clock else if is_enable pin then Some gater.enable else if is_test pin then gater.test
     else if is_output pin then Some gater.output else None
 
--- the nets at the pins of a register: the clock at its clock pin, each output that is shown at its pin, and the inputs, in their
--- order, at the others
+-- the nets at the pins of a register: the clock at its clock pin, each output that is shown at its pin, and the inputs and the nets
+-- of the control, in their order, at the data and at the control pins; a pin that is both has an input
 abbrev pub net_here : ℕ → List Shown → Option NetName
 net_here place [] = None
 net_here place (output ∷ outputs) = if nat_eq place output.1 then Some output.0.0 else None
@@ -37,12 +38,15 @@ abbrev pub left_here : ℕ → List Shown → List Shown
 left_here place [] = []
 left_here place (output ∷ outputs) = if nat_eq place output.1 then outputs else output ∷ outputs
 
-abbrev pub flop_nets : ℕ → List PinData → List NetName → NetName → List Shown → List (Option NetName)
-flop_nets place [] inputs clock shown = []
-flop_nets place (pin ∷ pins) inputs clock shown =
-    if is_clock pin then Some clock ∷ flop_nets (place + 1) pins inputs clock shown
-    else if is_state pin then net_here place shown ∷ flop_nets (place + 1) pins inputs clock (left_here place shown)
-    else slice_get inputs 0 ∷ flop_nets (place + 1) pins (drop 1 inputs) clock shown
+abbrev pub read_here : PinData → List NetName → List NetName → Option NetName
+read_here pin inputs controls = if is_data pin then slice_get inputs 0 else slice_get controls 0
+
+abbrev pub flop_nets : ℕ → List PinData → List NetName → List NetName → NetName → List Shown → List (Option NetName)
+flop_nets place [] inputs controls clock shown = []
+flop_nets place (pin ∷ pins) inputs controls clock shown =
+    if is_clock pin then Some clock ∷ flop_nets (place + 1) pins inputs controls clock shown
+    else if is_state pin then net_here place shown ∷ flop_nets (place + 1) pins inputs controls clock (left_here place shown)
+    else read_here pin inputs controls ∷ flop_nets (place + 1) pins (behind (is_data pin) inputs) (behind (is_control pin) controls) clock shown
 
 abbrev pub with_places : List (NetName × Bool) → List ℕ → List Shown
 with_places [] places = []
@@ -57,4 +61,4 @@ abbrev pub gater_pins : GatingCell NetName → List PinNet
 gater_pins gater = pin_pairs gater.cell.pins (map (gater_net gater) gater.cell.pins)
 
 abbrev pub flop_pins : CellData → RegisterCell NetName NetName → List PinNet
-flop_pins cell r = pin_pairs cell.pins (flop_nets 0 cell.pins r.inputs r.clock (with_places r.outputs r.pins))
+flop_pins cell r = pin_pairs cell.pins (flop_nets 0 cell.pins r.inputs r.controls r.clock (with_places r.outputs r.pins))

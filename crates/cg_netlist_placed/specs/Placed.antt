@@ -6,7 +6,7 @@ use Rattle.std.specs.Option.{option_and_then}
 use Rattle.std.specs.Str.{bytes_eq}
 use Rattle.cg_cell.specs.Cell.{CellData}
 use Rattle.cg_cell.specs.Name.{are_distinct, is_name}
-use Rattle.cg_cell.specs.Pins.{PinData, is_clock, is_data, is_enable, is_output, is_state, is_test}
+use Rattle.cg_cell.specs.Pins.{PinData, is_clock, is_control, is_data, is_enable, is_output, is_state, is_test}
 use Rattle.cg_cell.specs.declared.cell.CellKind.{CellKind}
 use Rattle.cg_cell.specs.declared.cell.CellKind.TheVariants.{Logic as LogicKind, Flop as FlopKind, Gater as GaterKind, Unusable}
 use Rattle.cg_netlist.specs.declared.parts.LogicFunction.TheVariants.{Cell}
@@ -60,7 +60,7 @@ shown_at place (pin ∷ pins) [] = []
 shown_at place (pin ∷ pins) (net ∷ nets) = show net pin place (shown_at (place + 1) pins nets)
 
 -- a placed cell with these nets at its pins, where each pin that has to be given is: the inputs, clocks, enables, tests, and the
--- output of a logic or a gating cell; and of a register at least one output
+-- output of a logic or a gating cell; and of a register the nets of its control, and at least one output
 abbrev pub logic_part : CellData → Option (List NetName) → Option (List NetName) → Option Part
 logic_part cell (Some inputs) (Some (output ∷ [])) =
     Some (Logic (record { inputs = inputs; output = output; function = Cell cell }))
@@ -72,17 +72,18 @@ gater_part cell (Some (clock ∷ [])) (Some (enable ∷ [])) (Some tests) (Some 
     Some (GaterPart (record { clock = clock; enable = enable; test = slice_get tests 0; output = output; cell = cell }))
 gater_part cell clocks enables tests outputs = None
 
-abbrev pub flop_part : CellData → Option (List NetName) → Option (List NetName) → List Shown → Option Part
-flop_part cell (Some inputs) (Some (clock ∷ [])) (output ∷ outputs) =
+abbrev pub flop_part : CellData → Option (List NetName) → Option (List NetName) → Option (List NetName) → List Shown → Option Part
+flop_part cell (Some inputs) (Some controls) (Some (clock ∷ [])) (output ∷ outputs) =
     Some (Register (record {
       inputs = inputs;
+      controls = controls;
       outputs = map (λ o. o.0) (output ∷ outputs);
       pins = map (λ o. o.1) (output ∷ outputs);
       clock = Some clock;
       kind = Flop cell;
       init = 3;
     }))
-flop_part cell inputs clocks outputs = None
+flop_part cell inputs controls clocks outputs = None
 
 abbrev pub placed_part : CellKind → CellData → List (Option NetName) → Option Part
 placed_part LogicKind cell nets = logic_part cell (at_role is_data cell.pins nets) (at_role is_output cell.pins nets)
@@ -90,7 +91,8 @@ placed_part GaterKind cell nets =
     gater_part cell (at_role is_clock cell.pins nets) (at_role is_enable cell.pins nets) (at_role is_test cell.pins nets)
     (at_role is_output cell.pins nets)
 placed_part FlopKind cell nets =
-    flop_part cell (at_role is_data cell.pins nets) (at_role is_clock cell.pins nets) (shown_at 0 cell.pins nets)
+    flop_part cell (at_role is_data cell.pins nets) (at_role is_control cell.pins nets) (at_role is_clock cell.pins nets)
+    (shown_at 0 cell.pins nets)
 placed_part Unusable cell nets = None
 
 -- the part of a cell with nets at its pins, or that the pins are at fault

@@ -19,5 +19,6 @@ pub record GaterNets (c : Circuit) (gater : GatingCell ℕ) : Type 0 where
 
 pub record RegisterNets (c : Circuit) (r : RegisterCell ℕ ℕ) : Type 0 where
   pub inputs : AreNets c r.inputs
+  pub controls : AreNets c r.controls
   pub outputs : AreNets c (shown_nets r)
   pub clock : IsNet c r.clock

@@ -136,10 +136,18 @@ fn add_flop(
     ensures { IsTold builder.old builder.new (part_or (placed_part FlopKind cell.now (nets_at cell.now.pins words.now))) result }
 {
     let inputs = all_at(alloc, cell, words, Role::Data)?;
+    let controls = all_at(alloc, cell, words, Role::Control)?;
     let clocks = all_at(alloc, cell, words, Role::Clock)?;
     let outputs = outputs_of(alloc, cell.pins(), words)?;
     if clocks.len() != 1 || outputs.is_empty() {
         return Err(Refusal::Placed(PlacedFault::PinFault));
     }
-    told(builder.register(Some(cell), &inputs, &outputs, Some(clocks[0]), 3))
+    told(builder.register(
+        Some(cell),
+        &inputs,
+        &controls,
+        &outputs,
+        Some(clocks[0]),
+        3,
+    ))
 }

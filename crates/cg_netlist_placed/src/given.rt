@@ -86,7 +86,9 @@ fn has_role(pin: &Pin, role: Role) -> bool
     ensures { result ≡ has_role role pin.now }
 {
     match role {
-        Role::Data => matches!(pin.role(), Role::Data),
+        Role::Data => pin.is_data(),
+        Role::Control => pin.is_control(),
+        Role::DataControl => pin.is_data() && pin.is_control(),
         Role::Clock => matches!(pin.role(), Role::Clock),
         Role::Enable => matches!(pin.role(), Role::Enable),
         Role::Test => matches!(pin.role(), Role::Test),

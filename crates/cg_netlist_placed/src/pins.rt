@@ -1,8 +1,9 @@
 //! The pins of a placed cell, with their nets.
 
 ghost use Rattle.std.specs.Prelude.{◌≡◌, ◌<◌, ◌+◌, ◌++◌, ◌∷◌, List, true, false, IfOk, OnOk, drop, length, map};
-ghost use Rattle.cg_cell.specs.Pins.{PinData, is_clock, is_state};
+ghost use Rattle.cg_cell.specs.Pins.{PinData, is_clock, is_control, is_data, is_state};
 ghost use Rattle.cg_netlist.specs.View.{gater_seen, register_seen};
+ghost use Rattle.cg_netlist.specs.WellFormed.{behind};
 ghost use Rattle.cg_netlist.specs.Wiring.{map_gater};
 ghost use Rattle.cg_net.specs.Names.{net_name};
 ghost use Rattle.cg_netlist_placed.specs.PinsOf.{gater_net, logic_nets, pin_pairs};
@@ -121,19 +122,20 @@ fn push_gater_pin<'a>(
             Some(net) => push_pin(words, netlist, pin, net),
             None => Ok(()),
         },
-        Role::Data | Role::State | Role::StateBar => Ok(()),
+        Role::Data | Role::Control | Role::DataControl | Role::State | Role::StateBar => Ok(()),
     }
 }
 
-/// How many inputs and how many outputs of a register were put.
+/// How many inputs, control nets and outputs of a register were put.
 #[derive(Clone, Copy)]
 struct Put {
     inputs: usize,
+    controls: usize,
     outputs: usize,
 }
 
-/// The pins of a register: its clock, each output that is connected at its pin, and the inputs, in their order, at the other
-/// pins.
+/// The pins of a register: its clock, each output that is connected at its pin, and the inputs and the nets of the control, in their
+/// order, at the data and the control pins.
 #[tactic(auto, using(crate::proofs::PinLemmas::turns))]
 pub fn flop_pins<'a>(
     alloc: Global,
@@ -144,11 +146,12 @@ pub fn flop_pins<'a>(
     requires nets { RegisterNets netlist.now (register_seen register.now) }
     requires places { length register.now.pins.now ≡ length register.now.outputs.now }
     ensures { IfOk result
-        (λ words. words.items ≡ pin_pairs pins.entry.now (seen_nets netlist.entry.now.names (register_seen register.now) 0 pins.entry.now 0 0)) }
+        (λ words. words.items ≡ pin_pairs pins.entry.now (seen_nets netlist.entry.now.names (register_seen register.now) 0 pins.entry.now 0 0 0)) }
 {
     let mut words = Vec::with_capacity(alloc, pins.len())?;
     let mut put = Put {
         inputs: 0,
+        controls: 0,
         outputs: 0,
     };
     'pins: for (at, pin) in pins.iter().enumerate() {
@@ -170,8 +173,8 @@ fn push_flop_pin<'a>(
     requires nets { RegisterNets netlist.now (register_seen register.now) }
     requires places { length register.now.pins.now ≡ length register.now.outputs.now }
     ensures { IfOk result (λ after. (later : List PinData)
-        → flop_written netlist.entry.now.names (register_seen register.now) (at + 1) later after.inputs after.outputs words.new.items
-        ≡ flop_written netlist.entry.now.names (register_seen register.now) at (pin.entry.now ∷ later) put.inputs put.outputs words.old.items) }
+        → flop_written netlist.entry.now.names (register_seen register.now) (at + 1) later after.inputs after.controls after.outputs words.new.items
+        ≡ flop_written netlist.entry.now.names (register_seen register.now) at (pin.entry.now ∷ later) put.inputs put.controls put.outputs words.old.items) }
 {
     match pin.role() {
         Role::Clock => {
@@ -179,8 +182,9 @@ fn push_flop_pin<'a>(
             Ok(put)
         }
         Role::State | Role::StateBar => push_output(words, netlist, at, pin, register, put),
-        Role::Data | Role::Enable | Role::Test | Role::Output => {
-            push_input(words, netlist, at, pin, register, put)
+        Role::Data | Role::DataControl => push_input(words, netlist, at, pin, register, put),
+        Role::Control | Role::Enable | Role::Test | Role::Output => {
+            push_control(words, netlist, at, pin, register, put)
         }
     }
 }
@@ -200,24 +204,25 @@ fn push_output<'a>(
     requires clock { is_clock pin.now ≡ false }
     requires state { is_state pin.now ≡ true }
     ensures { IfOk result (λ after. (later : List PinData)
-        → flop_written netlist.entry.now.names (register_seen register.now) (at + 1) later after.inputs after.outputs words.new.items
-        ≡ flop_written netlist.entry.now.names (register_seen register.now) at (pin.entry.now ∷ later) put.inputs put.outputs words.old.items) }
+        → flop_written netlist.entry.now.names (register_seen register.now) (at + 1) later after.inputs after.controls after.outputs words.new.items
+        ≡ flop_written netlist.entry.now.names (register_seen register.now) at (pin.entry.now ∷ later) put.inputs put.controls put.outputs words.old.items) }
 {
-    let Put { inputs, outputs } = put;
+    let outputs = put.outputs;
     if outputs >= register.outputs.len() {
-        return Ok(Put { inputs, outputs });
+        return Ok(put);
     }
     if register.pins[outputs] as usize != at {
-        return Ok(Put { inputs, outputs });
+        return Ok(put);
     }
     push_pin(words, netlist, pin, register.outputs[outputs].0)?;
     Ok(Put {
-        inputs,
+        inputs: put.inputs,
+        controls: put.controls,
         outputs: outputs + 1,
     })
 }
 
-/// Puts an input pin at a place behind others, if an input is left.
+/// Puts a data pin at a place behind others, if an input is left. A pin that is a control pin as well stands for its control net too.
 #[tactic(auto, using(crate::proofs::PinLemmas::flop))]
 fn push_input<'a>(
     words: &mut Vec<PinWord<'a>>,
@@ -230,17 +235,73 @@ fn push_input<'a>(
     requires nets { RegisterNets netlist.now (register_seen register.now) }
     requires clock { is_clock pin.now ≡ false }
     requires state { is_state pin.now ≡ false }
+    requires data_pin { is_data pin.now ≡ true }
     ensures { IfOk result (λ after. (later : List PinData)
-        → flop_written netlist.entry.now.names (register_seen register.now) (at + 1) later after.inputs after.outputs words.new.items
-        ≡ flop_written netlist.entry.now.names (register_seen register.now) at (pin.entry.now ∷ later) put.inputs put.outputs words.old.items) }
+        → flop_written netlist.entry.now.names (register_seen register.now) (at + 1) later after.inputs after.controls after.outputs words.new.items
+        ≡ flop_written netlist.entry.now.names (register_seen register.now) at (pin.entry.now ∷ later) put.inputs put.controls put.outputs words.old.items) }
 {
-    let Put { inputs, outputs } = put;
+    let Put {
+        inputs,
+        controls,
+        outputs,
+    } = put;
+    let controls = controls_behind(pin, register.controls, controls);
     if inputs >= register.inputs.len() {
-        return Ok(Put { inputs, outputs });
+        return Ok(Put {
+            inputs,
+            controls,
+            outputs,
+        });
     }
     push_pin(words, netlist, pin, register.inputs[inputs])?;
     Ok(Put {
         inputs: inputs + 1,
+        controls,
         outputs,
     })
+}
+
+/// How many control nets are at pins behind this one, so many being at pins before it.
+fn controls_behind(pin: &Pin, nets: &[NetId], before: usize) -> usize
+    ensures { drop result nets.now ≡ behind (is_control pin.now) (drop before nets.now) }
+{
+    if pin.is_control() && before < nets.len() {
+        return before + 1;
+    }
+    before
+}
+
+/// Puts a control pin at a place behind others, if a control net is left.
+#[tactic(auto, using(crate::proofs::PinLemmas::flop))]
+fn push_control<'a>(
+    words: &mut Vec<PinWord<'a>>,
+    netlist: &'a Netlist,
+    at: usize,
+    pin: &'a Pin,
+    register: &RegView<'_>,
+    put: Put,
+) -> Result<Put, AllocError>
+    requires nets { RegisterNets netlist.now (register_seen register.now) }
+    requires clock { is_clock pin.now ≡ false }
+    requires state { is_state pin.now ≡ false }
+    requires other { is_data pin.now ≡ false }
+    ensures { IfOk result (λ after. (later : List PinData)
+        → flop_written netlist.entry.now.names (register_seen register.now) (at + 1) later after.inputs after.controls after.outputs words.new.items
+        ≡ flop_written netlist.entry.now.names (register_seen register.now) at (pin.entry.now ∷ later) put.inputs put.controls put.outputs words.old.items) }
+{
+    let Put {
+        inputs,
+        controls,
+        outputs,
+    } = put;
+    let after = Put {
+        inputs,
+        controls: controls_behind(pin, register.controls, controls),
+        outputs,
+    };
+    if controls >= register.controls.len() {
+        return Ok(after);
+    }
+    push_pin(words, netlist, pin, register.controls[controls])?;
+    Ok(after)
 }

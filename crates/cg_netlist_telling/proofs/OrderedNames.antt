@@ -46,9 +46,10 @@ module _ {N M K : Type 0} (f : N → M) (h : M → K) (k : N → K) (P : M → T
 
   register_twice : (r : RegisterCell N N) → RegisterNets P (map_register f r) → map_register h (map_register f r) ≡ map_register k r
   register_twice r all =
-      ap (λ i. record { inputs = i; outputs = map_outputs h (map_outputs f r.outputs); pins = r.pins; clock = h (f r.clock); kind = r.kind; init = r.init }) (each_twice r.inputs all.inputs)
-      ∙ (ap (λ o. record { inputs = map k r.inputs; outputs = o; pins = r.pins; clock = h (f r.clock); kind = r.kind; init = r.init }) (outputs_twice r.outputs all.outputs)
-      ∙ ap (λ c. record { inputs = map k r.inputs; outputs = map_outputs k r.outputs; pins = r.pins; clock = c; kind = r.kind; init = r.init }) (same r.clock all.clock))
+      ap (λ i. record { inputs = i; controls = map h (map f r.controls); outputs = map_outputs h (map_outputs f r.outputs); pins = r.pins; clock = h (f r.clock); kind = r.kind; init = r.init }) (each_twice r.inputs all.inputs)
+      ∙ (ap (λ i. record { inputs = map k r.inputs; controls = i; outputs = map_outputs h (map_outputs f r.outputs); pins = r.pins; clock = h (f r.clock); kind = r.kind; init = r.init }) (each_twice r.controls all.controls)
+      ∙ (ap (λ o. record { inputs = map k r.inputs; controls = map k r.controls; outputs = o; pins = r.pins; clock = h (f r.clock); kind = r.kind; init = r.init }) (outputs_twice r.outputs all.outputs)
+      ∙ ap (λ c. record { inputs = map k r.inputs; controls = map k r.controls; outputs = map_outputs k r.outputs; pins = r.pins; clock = c; kind = r.kind; init = r.init }) (same r.clock all.clock)))
 
   all_twice : {X Y Z : Type 0} (a : X → Y) (b : Y → Z) (d : X → Z) (Q : Y → Type 0) → ((x : X) → Q (a x) → b (a x) ≡ d x) → (xs : List X) → AllByRecursion Q (map a xs) → map b (map a xs) ≡ map d xs
   all_twice a b d Q one [] all = refl

@@ -65,23 +65,23 @@ plain_back (o ∷ []) (p ∷ q ∷ ps) is same = absurd (omega (arith, same))
 plain_back (o ∷ r ∷ os) pins is same = absurd (cc)
 
 outputs_back : (cell : Option CellData) (kind : RegisterKind) (r : RegisterCell NetName (Option NetName)) → kind_of cell ≡ kind → FitsKind kind r → length r.pins ≡ length r.outputs → map (shown cell) (placed r.outputs r.pins) ≡ r.outputs
-outputs_back None Plain r is fits same = plain_back r.outputs r.pins fits.1 same
+outputs_back None Plain r is fits same = plain_back r.outputs r.pins fits.2 same
 outputs_back None (Flop other) r is fits same = absurd (cc)
 outputs_back (Some cell) Plain r is fits same = absurd (cc)
 outputs_back (Some cell) (Flop other) r is fits same =
     let e : cell ≡ other = cc in
-    flop_back cell r.outputs r.pins (subst (λ (c : CellData). AllZip (ShowsAsPin c.pins) r.outputs r.pins) (sym e) fits.4)
+    flop_back cell r.outputs r.pins (subst (λ (c : CellData). AllZip (ShowsAsPin c.pins) r.outputs r.pins) (sym e) fits.6)
 
 -- the call of a register of this kind, with the names of its nets
 pub register_is : (names : List NetName) (r : RegisterCell ℕ ℕ) (cell : Option CellData) → kind_of cell ≡ r.kind → IsPart (clocked_part names r)
-    → Register (register_of cell (map (net_name names) r.inputs) (placed_outputs names r.outputs r.pins) (Some (net_name names r.clock)) r.init) ≡ clocked_part names r
+    → Register (register_of cell (map (net_name names) r.inputs) (map (net_name names) r.controls) (placed_outputs names r.outputs r.pins) (Some (net_name names r.clock)) r.init) ≡ clocked_part names r
 register_is names r cell kind part =
     let outs : List (NetName × Bool) = map_outputs (net_name names) r.outputs in
-    let s : RegisterCell NetName (Option NetName) = record { inputs = map (net_name names) r.inputs; outputs = outs; pins = r.pins; clock = Some (net_name names r.clock); kind = r.kind; init = r.init } in
+    let s : RegisterCell NetName (Option NetName) = record { inputs = map (net_name names) r.inputs; controls = map (net_name names) r.controls; outputs = outs; pins = r.pins; clock = Some (net_name names r.clock); kind = r.kind; init = r.init } in
     let fits : RegisterFits s = part.fits in
     let o : map (shown cell) (placed_outputs names r.outputs r.pins) ≡ outs = ap (map (shown cell)) (placed_is names r.outputs r.pins) ∙ outputs_back cell r.kind s kind fits.kind fits.pins in
     let p : map (λ (output : NetName × ℕ). output.1) (placed_outputs names r.outputs r.pins) ≡ r.pins = ap (map (λ (output : NetName × ℕ). output.1)) (placed_is names r.outputs r.pins) ∙ pins_back outs r.pins fits.pins in
-    λ i. Register (record { inputs = map (net_name names) r.inputs; outputs = o i; pins = p i; clock = Some (net_name names r.clock); kind = kind i; init = r.init })
+    λ i. Register (record { inputs = map (net_name names) r.inputs; controls = map (net_name names) r.controls; outputs = o i; pins = p i; clock = Some (net_name names r.clock); kind = kind i; init = r.init })
 
 -- one output more
 pub placed_step : (names : List NetName) (outputs : List (ℕ × Bool)) (pins : List ℕ) (k : ℕ) (o : ℕ × Bool) (p : ℕ) → slice_get outputs k ≡ Some o → slice_get pins k ≡ Some p → (old new : List (Bor (List ℕ) × ℕ)) (value : Bor (List ℕ) × ℕ)
@@ -102,7 +102,7 @@ placed_step names outputs pins k o p o_at p_at old new value is more name pin =
     even = let a = slice_get_within outputs k o o_at in let b = slice_get_within pins k p p_at in length-take-le k outputs (omega (arith, a)) ∙ sym (length-take-le k pins (omega (arith, b)))
 
 -- the call of a register with these nets
-pub register_call : (names : List NetName) (r : RegisterCell ℕ ℕ) (cell : Option CellData) (ins : List NetName) (outs : List (NetName × ℕ)) (clock : NetName) → kind_of cell ≡ r.kind → ins ≡ map (net_name names) r.inputs → outs ≡ placed_outputs names r.outputs r.pins → clock ≡ net_name names r.clock
-    → IsPart (clocked_part names r) → Register (register_of cell ins outs (Some clock) r.init) ≡ clocked_part names r
-register_call names r cell ins outs clock kind ins_are outs_are clock_is part =
-    (λ i. Register (register_of cell (ins_are i) (outs_are i) (Some (clock_is i)) r.init)) ∙ register_is names r cell kind part
+pub register_call : (names : List NetName) (r : RegisterCell ℕ ℕ) (cell : Option CellData) (ins asks : List NetName) (outs : List (NetName × ℕ)) (clock : NetName) → kind_of cell ≡ r.kind → ins ≡ map (net_name names) r.inputs → asks ≡ map (net_name names) r.controls → outs ≡ placed_outputs names r.outputs r.pins → clock ≡ net_name names r.clock
+    → IsPart (clocked_part names r) → Register (register_of cell ins asks outs (Some clock) r.init) ≡ clocked_part names r
+register_call names r cell ins asks outs clock kind ins_are asks_are outs_are clock_is part =
+    (λ i. Register (register_of cell (ins_are i) (asks_are i) (outs_are i) (Some (clock_is i)) r.init)) ∙ register_is names r cell kind part

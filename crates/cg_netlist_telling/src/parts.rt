@@ -227,11 +227,13 @@ pub fn tell_register(
     ensures { WasTold builder.old (clocked_part names.now (record (register_seen register.entry) { clock = clock }) ∷ []) builder.new result }
 {
     let inputs = names.each(alloc, register.inputs)?;
+    let controls = names.each(alloc, register.controls)?;
     let outputs = placed_outputs(alloc, names, register.outputs, register.pins)?;
     let clock = Some(names.name(clock));
     builder.register(
         cell_of(register.kind),
         &inputs,
+        &controls,
         &outputs,
         clock,
         register.init,

@@ -6,12 +6,13 @@ use Rattle.std.specs.Option.{option_map_or}
 use Rattle.std.proofs.lemmas.Bool.{both_ways, eqb-true, eq-eqb}
 use Rattle.std.proofs.lemmas.List.Folds.{list_any-append}
 use Rattle.cg_stage_groups.proofs.Ordered.{range_more}
+use Rattle.cg_stage_list_laws.specs.Controlled.{has_preset_at}
 use Rattle.cg_stage_list_laws.specs.Rounds.{same_option}
 use Rattle.cg_stage_list_laws.specs.Supports.{has_enable, own_registers_of, supports}
 use Rattle.cg_stage_list_laws.specs.UnseenList.{enables_some, fan_out, is_guard, plain_outputs, taken_at}
 use Rattle.cg_machine.specs.Machine.{MachineData, enable_of}
 use Rattle.cg_net.specs.NetSets.{is_in}
-use Rattle.cg_odc.specs.inner.Guarding.{guards_by, may_guard, shows_plain}
+use Rattle.cg_odc.specs.inner.Guarding.{can_guard, guards_by, may_guard, shows_plain}
 use Rattle.cg_odc.proofs.Any.{any_beside, any_filter, any_same, any_swap}
 
 module _ (m : MachineData) where
@@ -37,10 +38,10 @@ module _ (m : MachineData) where
   -- a guard is one by all registers of the netlist
   pub guard_is : (g q : ℕ) → nat_lt q m.own_registers ≡ true → is_guard m g (fan_out m g) q ≡ guards_by m m.own_registers g q
   guard_is g q own =
-      ap (λ b. not (nat_eq q g) && not (has_enable m q) && is_some (taken_at m q) && b) some_is
-      ∙ (turn (not (nat_eq q g)) (not (has_enable m q)) (is_some (taken_at m q)) (list_any (between g q) (own_registers_of m))
-      ∙ ap (λ b. not (nat_eq q g) && b) (any_beside (not (has_enable m q) && is_some (taken_at m q)) (between g q) (own_registers_of m) ∙ any_same (λ k. between g q k && (not (has_enable m q) && is_some (taken_at m q))) (λ k. (not (nat_eq k g) && supports m k g) && may_guard m k q) (own_registers_of m)
-      (λ k. three (not (nat_eq k g) && supports m k g) (option_map_or (shows_plain m q) (enable_of m k) false) (not (has_enable m q) && is_some (taken_at m q)))))
+      ap (λ b. not (nat_eq q g) && not (has_enable m q) && not (has_preset_at m q) && is_some (taken_at m q) && b) some_is
+      ∙ (turn (not (nat_eq q g)) (not (has_enable m q)) (not (has_preset_at m q)) (is_some (taken_at m q)) (list_any (between g q) (own_registers_of m))
+      ∙ ap (λ b. not (nat_eq q g) && b) (any_beside (can_guard m q) (between g q) (own_registers_of m) ∙ any_same (λ k. between g q k && can_guard m q) (λ k. (not (nat_eq k g) && supports m k g) && may_guard m k q) (own_registers_of m)
+      (λ k. three (not (nat_eq k g) && supports m k g) (option_map_or (shows_plain m q) (enable_of m k) false) (can_guard m q))))
     where
       some_is : enables_some m (fan_out m g) q ≡ list_any (between g q) (own_registers_of m)
       some_is =
@@ -48,10 +49,10 @@ module _ (m : MachineData) where
           ∙ (any_same (λ k. list_any (λ y. same_option (enable_of m k) (Some y)) (outputs q)) (λ k. option_map_or (shows_plain m q) (enable_of m k) false) (fan_out m g) (λ k. enable_shown q k own)
           ∙ any_filter (λ k. option_map_or (shows_plain m q) (enable_of m k) false) (λ k. not (nat_eq k g) && supports m k g) (own_registers_of m))
 
-      turn : (a b c d : Bool) → (a && b && c && d) ≡ (a && ((b && c) && d))
-      turn true true c d = refl
-      turn true false c d = refl
-      turn false b c d = refl
+      turn : (a b c d e : Bool) → (a && b && c && d && e) ≡ (a && ((b && c && d) && e))
+      turn true true c d e = refl
+      turn true false c d e = refl
+      turn false b c d e = refl
 
       three : (a b c : Bool) → ((a && b) && c) ≡ (a && (b && c))
       three true b c = refl
@@ -72,7 +73,7 @@ module _ (m : MachineData) where
       none : (ks : List ℕ) → nat_lt q m.own_registers ≡ false → list_any (λ k. (not (nat_eq k g) && supports m k g) && may_guard m k q) ks ≡ false
       none [] past = refl
       none (k ∷ ks) past =
-          ap (λ b. ((not (nat_eq k g) && supports m k g) && (b && (not (has_enable m q) && is_some (taken_at m q)))) || list_any (λ k. (not (nat_eq k g) && supports m k g) && may_guard m k q) ks) (shown_none (enable_of m k) past)
+          ap (λ b. ((not (nat_eq k g) && supports m k g) && (b && can_guard m q)) || list_any (λ k. (not (nat_eq k g) && supports m k g) && may_guard m k q) ks) (shown_none (enable_of m k) past)
           ∙ (ap (λ b. b || list_any (λ k. (not (nat_eq k g) && supports m k g) && may_guard m k q) ks) (and_false (not (nat_eq k g) && supports m k g)) ∙ none ks past)
 
       go : (b : Bool) → nat_lt q m.own_registers ≡ b → b ≡ true

@@ -4,6 +4,7 @@ use Rattle.std.proofs.Common.{nat_eq, bytes_eq, option_and_then, Option, Some, N
 use Rattle.std.specs.List.{cons_option, filter, filter_map, find}
 use Rattle.std.specs.Option.{option_map, option_map_or}
 use Rattle.std.proofs.lemmas.Bool.{both_ways, eq-eqb, eqb-true, lt-ltb, ltb-true, or_left}
+use Rattle.cg_stage_list_laws.specs.Controlled.{feeds_controls}
 use Rattle.cg_stage_list_laws.specs.Groups.{Group, group_of, groups, has_key, is_first}
 use Rattle.cg_stage_list_laws.specs.Rounds.{is_empty, kept_key, left_out, same_kind}
 use Rattle.cg_stage_list_laws.specs.StableList.{StableKey, same_stable}
@@ -17,7 +18,7 @@ use Rattle.cg_net.specs.NetSets.{is_in}
 use Rattle.cg_odc.specs.inner.Guarding.{guard_key, guards_by, had_guards}
 use Rattle.cg_odc.proofs.Any.{any_same}
 use Rattle.cg_odc.proofs.Guarded.{guard_is, guard_own}
-use Rattle.std.proofs.Math.Bool.{and-true}
+use Rattle.std.proofs.Math.Bool.{and-false, and-true}
 use Rattle.cg_netlist.proofs.ByRank.{filter_same}
 use Rattle.cg_netlist.proofs.Filtered.{to_filter}
 
@@ -35,13 +36,15 @@ module _ (m : MachineData) (g : ℕ) (numbers : List ℕ) (are : (q : ℕ) → i
   some_left q [] among = absurd (both_ways false refl among)
   some_left q (x ∷ xs) among = refl
 
-  pub key_some : is_empty numbers ≡ false → has_enable m g ≡ false → (ordered : List ℕ) → ordered ≡ filter (is_in numbers) (own_registers_of m) → Some (guard_key ordered) ≡ option_map guard_key (unseen_key m g)
-  key_some some free ordered is =
+  pub key_some : is_empty numbers ≡ false → has_enable m g ≡ false → feeds_controls m g ≡ false → (ordered : List ℕ) → ordered ≡ filter (is_in numbers) (own_registers_of m) → Some (guard_key ordered) ≡ option_map guard_key (unseen_key m g)
+  key_some some free apart ordered is =
       let q = first numbers some in
       let there : is_in (filter (is_in numbers) (own_registers_of m)) q.0 ≡ true = to_filter (is_in numbers) (own_registers_of m) q.0 (is_in-range m.own_registers 0 q.0 (omega arith) (let h = below q.0 q.1 in omega (arith, h))) q.1 in
       let full : is_empty (guards_of m g) ≡ false = ap is_empty (sym guards_are) ∙ some_left q.0 (filter (is_in numbers) (own_registers_of m)) there in
-      ap (λ l. Some (guard_key l)) (is ∙ guards_are) ∙ sym (ap (λ b. option_map guard_key (if (not b && not (is_empty (guards_of m g))) then Some (guards_of m g) else None)) free
-      ∙ ap (λ b. option_map guard_key (if not b then Some (guards_of m g) else None)) full)
+      ap (λ l. Some (guard_key l)) (is ∙ guards_are)
+      ∙ sym (ap (λ b. option_map guard_key (if (not b && not (feeds_controls m g) && not (is_empty (guards_of m g))) then Some (guards_of m g) else None)) free
+      ∙ (ap (λ b. option_map guard_key (if (not b && not (is_empty (guards_of m g))) then Some (guards_of m g) else None)) apart
+      ∙ ap (λ b. option_map guard_key (if not b then Some (guards_of m g) else None)) full))
     where
       first : (xs : List ℕ) → is_empty xs ≡ false → (x : ℕ) × (is_in xs x ≡ true)
       first [] h = absurd (both_ways true h refl)
@@ -49,18 +52,21 @@ module _ (m : MachineData) (g : ℕ) (numbers : List ℕ) (are : (q : ℕ) → i
 
   pub key_empty : numbers ≡ [] → None ≡ option_map guard_key (unseen_key m g)
   key_empty none =
-      sym (ap (λ l. option_map guard_key (if (not (has_enable m g) && not (is_empty l)) then Some l else None)) (sym guards_are ∙ (ap (λ l. filter (is_in l) (own_registers_of m)) none ∙ filter_none (own_registers_of m))) ∙ ap (λ b. option_map guard_key (if b then Some [] else None)) (no (has_enable m g)))
+      sym (ap (λ l. option_map guard_key (if (not (has_enable m g) && not (feeds_controls m g) && not (is_empty l)) then Some l else None)) (sym guards_are ∙ (ap (λ l. filter (is_in l) (own_registers_of m)) none ∙ filter_none (own_registers_of m)))
+      ∙ ap (λ b. option_map guard_key (if b then Some [] else None)) (and-false (not (has_enable m g) && not (feeds_controls m g))))
     where
       filter_none : (xs : List ℕ) → filter (is_in []) xs ≡ []
       filter_none [] = refl
       filter_none (x ∷ xs) = filter_none xs
 
-      no : (b : Bool) → (not b && false) ≡ false
-      no true = refl
-      no false = refl
-
 pub key_enabled : (m : MachineData) (g : ℕ) → has_enable m g ≡ true → None ≡ option_map guard_key (unseen_key m g)
-key_enabled m g enabled = sym (ap (λ b. option_map guard_key (if (not b && not (is_empty (guards_of m g))) then Some (guards_of m g) else None)) enabled)
+key_enabled m g enabled = sym (ap (λ b. option_map guard_key (if (not b && not (feeds_controls m g) && not (is_empty (guards_of m g))) then Some (guards_of m g) else None)) enabled)
+
+-- a register on which a control depends has no key
+pub key_feeding : (m : MachineData) (g : ℕ) → feeds_controls m g ≡ true → None ≡ option_map guard_key (unseen_key m g)
+key_feeding m g feeding =
+    sym (ap (λ b. option_map guard_key (if (not (has_enable m g) && not b && not (is_empty (guards_of m g))) then Some (guards_of m g) else None)) feeding
+    ∙ ap (λ b. option_map guard_key (if (b && not (is_empty (guards_of m g))) then Some (guards_of m g) else None)) (and-false (not (has_enable m g))))
 
 -- what earlier stages leave out
 same_left : (earlier : List Earlier) (r : ℕ) (guards : List ℕ) → left_out Unseen had_guards earlier r (guard_key guards) ≡ left_out Unseen had_unseen earlier r guards

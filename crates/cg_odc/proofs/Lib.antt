@@ -1,4 +1,5 @@
 pub mod Any
+pub mod ControlEdge
 pub mod Guarded
 pub mod Keyed
 pub mod Listed

@@ -15,6 +15,7 @@ use Rattle.cg_stage_groups.specs.declared.key.Key.{Key}
 use Rattle.cg_stage_list_laws.proofs.FitLists.{begins_group}
 use Rattle.cg_stage_list_laws.proofs.Mapped.{kept, then_option, when_true}
 use Rattle.cg_stage_list_laws.proofs.UsedNets.{register_used, used_net}
+use Rattle.cg_stage_list_laws.specs.Controlled.{feeds_controls}
 use Rattle.cg_stage_list_laws.specs.Groups.{Group, group_of, groups}
 use Rattle.cg_stage_list_laws.specs.HoldList.{unless_empty}
 use Rattle.cg_stage_list_laws.specs.Rounds.{is_empty, kept_key, plain_literals}
@@ -112,7 +113,7 @@ keys_own m earlier keys regs even are k key at q among =
     let h = lifted_at (unseen_groups m earlier) k seen.0 (ap (λ l. slice_get l k) (sym are) ∙ seen.1) in
     let r = mapped_at (λ r. option_and_then (group_of bytes_eq (kept_key Unseen had_unseen earlier (unseen_key m)) (own_registers_of m) r) (kept_key Unseen had_unseen earlier (unseen_key m) r)) (own_registers_of m) k h.0 h.1 in
     let begins = begins_group bytes_eq (λ a b. (bytes_eq-Decides a b).0) (kept_key Unseen had_unseen earlier (unseen_key m)) (own_registers_of m) r.0 h.0 r.1 in
-    let guards = (when_true (not (has_enable m r.0) && not (is_empty (guards_of m r.0))) (guards_of m r.0) h.0.key (kept Unseen had_unseen earlier (unseen_key m) r.0 h.0.key begins.is_key)).1 in
+    let guards = (when_true (not (has_enable m r.0) && not (feeds_controls m r.0) && not (is_empty (guards_of m r.0))) (guards_of m r.0) h.0.key (kept Unseen had_unseen earlier (unseen_key m) r.0 h.0.key begins.is_key)).1 in
     let same : key.numbers.items ≡ guards_of m r.0 = ap (λ (z : StableKey). z.enables) (sym seen.2 ∙ ap (λ (g : Group StableKey). g.key) (sym h.2)) ∙ sym guards in
     let there = in_filter (is_guard m r.0 (fan_out m r.0)) (own_registers_of m) q (ap (λ l. is_in l q) (sym same) ∙ among) in
     let b = in_range m.own_registers 0 q there.0 in

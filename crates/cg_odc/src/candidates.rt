@@ -25,11 +25,11 @@ use std::alloc::{AllocError, Global};
 /// The stages that a round of unobservability tries on a machine, where these stages were tried before, with a test input or
 /// without.
 ///
-/// A register without an enable is a candidate where a register guards it: one without an enable that takes one net alone,
-/// and whose bit is the enable of a register that stands on the candidate. It is left out where it stood in an earlier stage
-/// of unobservability that was inserted, or that had the same guards. Registers with the same guards form one stage, and the
-/// stages stand in the order of their first register. With a test input no register is in a stage that guards a group of the
-/// round, or that guards an inserted stage.
+/// A register without an enable is a candidate where no control depends on it, and where a register guards it: one with neither an
+/// enable nor a preset that takes one net alone, and whose bit is the enable of a register that stands on the candidate. It is left
+/// out where it stood in an earlier stage of unobservability that was inserted, or that had the same guards. Registers with the
+/// same guards form one stage, and the stages stand in the order of their first register. With a test input no register is in a
+/// stage that guards a group of the round, or that guards an inserted stage.
 pub fn candidates(
     alloc: Global,
     machine: &Machine,

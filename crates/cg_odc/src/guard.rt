@@ -1,9 +1,10 @@
 //! The register that guards what a register stands on.
 
-ghost use Rattle.std.specs.Prelude.{◌≡◌, ◌<◌, ℕ, false, nat_eq, slice_get, option_and_then};
+ghost use Rattle.std.specs.Prelude.{◌≡◌, ◌<◌, ℕ, false, is_some, nat_eq, slice_get, option_and_then};
 ghost use Rattle.std.specs.Option.{option_map_or};
 ghost use Rattle.cg_cell.specs.Term.{Bit, lone_input};
 ghost use Rattle.cg_claim.specs.Reach.{register_term};
+ghost use Rattle.cg_stage_list_laws.specs.Controlled.{has_preset_at};
 ghost use Rattle.cg_stage_list_laws.specs.UnseenList.{taken_at};
 ghost use Rattle.cg_netlist.specs.View.{kind_seen};
 ghost use Rattle.cg_odc.specs.inner.Guarding.{is_plain, may_guard, shows_plain};
@@ -14,7 +15,7 @@ use cg_net::id::{NetId, RegId};
 use cg_netlist::driver::Driver;
 use cg_netlist::parts::RegKind;
 
-/// The register whose bit is the enable of a register, where it has no enable and takes one net alone.
+/// The register whose bit is the enable of a register, where it has neither an enable nor a preset and takes one net alone.
 pub(crate) fn guard_of(machine: &Machine, reg: RegId) -> Option<RegId>
     requires { reg < machine.now.own_registers }
     ensures { (q : ℕ) → may_guard machine.now reg q ≡ option_map_or (nat_eq q) result false }
@@ -29,7 +30,34 @@ pub(crate) fn guard_of(machine: &Machine, reg: RegId) -> Option<RegId>
     if machine.enable(guard).is_some() || taken_net(machine, guard).is_none() {
         return None;
     }
+    // A preset could force a 1 after the guard took a 0.
+    if has_preset(machine, guard) {
+        return None;
+    }
     Some(guard)
+}
+
+/// Whether the cell of a register of the netlist has a preset.
+fn has_preset(machine: &Machine, reg: RegId) -> bool
+    requires { reg < machine.now.own_registers }
+    ensures { result ≡ has_preset_at machine.now reg }
+{
+    let netlist = machine.netlist();
+    let _registers = netlist.registers();
+    match netlist.register(reg).kind {
+        RegKind::Plain => false,
+        RegKind::Cell(cell) => is_preset(cell),
+    }
+}
+
+/// Whether a cell has a preset.
+fn is_preset(cell: &CellType) -> bool
+    ensures { result ≡ is_some cell.now.control.preset }
+{
+    match cell.control() {
+        Some(control) => control.preset.is_some(),
+        None => false,
+    }
 }
 
 /// The register of the netlist that shows its bit at a net, and not the inverse.

@@ -70,8 +70,8 @@ fn keep_guards(before: &Earlier, kept: &mut IndexSet<u32>) -> Result<(), AllocEr
     Ok(())
 }
 
-/// Keeps these registers.
-fn keep_regs(regs: &[RegId], kept: &mut IndexSet<u32>) -> Result<(), AllocError>
+/// Keeps these registers in the set.
+pub(crate) fn keep_regs(regs: &[RegId], kept: &mut IndexSet<u32>) -> Result<(), AllocError>
     ensures { OnOk result ((y : ℕ) → is_in kept.new.keys y ≡ (is_in kept.old.keys y || is_in regs.now y)) }
 {
     for reg in regs {

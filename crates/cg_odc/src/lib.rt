@@ -7,6 +7,7 @@
 //!
 //! The modules:
 //!
+//! - `feeding`: the registers on which clear or preset of a register depends.
 //! - `guard`: the register that guards what a register stands on.
 //! - `guards`: the guards of each register.
 //! - `key`: the keys of registers, by which they are put into groups.
@@ -15,6 +16,7 @@
 #![tactic(auto)]
 
 pub mod candidates;
+mod feeding;
 mod guard;
 mod guards;
 mod kept;

@@ -10,3 +10,6 @@ pub mod Deciding
 pub mod Adding
 pub mod Judging
 pub mod Tried
+pub mod Telling
+pub mod Lists
+pub mod Listed

@@ -11,6 +11,7 @@ use Rattle.cg_stage_list_laws.specs.HoldList.{hold_list, hold_passes, hold_wide}
 use Rattle.cg_stage_list_laws.specs.Literals.{ZeroCounts}
 use Rattle.cg_machine.specs.Machine.{IsMachine, MachineData}
 use Rattle.cg_machine.specs.Run.{Same}
+use Rattle.cg_machine.specs.declared.stage.Stage.{Stage}
 use Rattle.cg_machine.specs.declared.stage.StageKind.TheVariants.{Stable, Unseen}
 use Rattle.cg_netlist.specs.declared.fault.AddFault.{AddFault}
 use Rattle.cg_netlist.specs.declared.fault.AddFault.TheVariants.{Limit as LimitFault, NoMemory}
@@ -20,6 +21,7 @@ use Rattle.cg_plan_laws.specs.Cleared.{AllCleared}
 use Rattle.cg_plan_laws.specs.Plan.{Plan, plan_of, rounds, try_all, unless_stopped, wide_of}
 use Rattle.cg_plan_laws.specs.Reported.{IsPlan, PlanMayFail, ReportedPlan}
 use Rattle.cg_plan_laws.specs.declared.settings.Settings.{Settings}
+use Rattle.cg_plan.specs.Lists.{counts_from, list_counts}
 use Rattle.cg_plan.specs.Planning.{IsSafePlan}
 use Rattle.cg_plan.specs.declared.plan.Draft.{Draft}
 use Rattle.cg_plan.specs.inner.Drafting.{IsDraft, Leads, MayStop, all_parts, unbegun}
@@ -61,6 +63,9 @@ module _ (library : List CellData) (settings : Settings) (counts : Option ZeroCo
       let stable : Plan = unless_stopped held.limit held (rounds library settings Stable settings.rounds held) in
       unless_stopped stable.limit stable (rounds library settings Unseen settings.rounds stable)
 
+  abbrev counts_by : List Stage → Bool → List ℕ
+  counts_by stages passes = counts_from library settings stages (record { machine = m; turns = []; limit = if passes then Some ClaimNodes else None })
+
   -- a plan that no claim stops at once has all its parts
   planned : hold_passes m counts settings.width ≡ false → all_parts library settings (hold_list m counts settings.width) (unbegun m) ≡ plan_of library settings counts m
   planned none = sym (ap plan_by none)
@@ -85,6 +90,10 @@ module _ (library : List CellData) (settings : Settings) (counts : Option ZeroCo
 
     pub plan_fails : (fault : AddFault) → MayStop settings (all_parts library settings found.stages) d fault → PlanMayFail (plan_of library settings counts m).limit fault
     plan_fails fault may = subst (λ (p : Plan). PlanMayFail p.limit fault) parts_are (may (unbegun m) begun)
+
+    -- the lists of the draft of which nothing was tried are those of the plan
+    pub counts_are : counts_from library settings found.stages (unbegun m) ≡ list_counts library settings counts m
+    counts_are = ap (λ stages. counts_from library settings stages (unbegun m)) is.stages ∙ sym (ap (counts_by (hold_list m counts settings.width)) is.none)
 
   abbrev told_by : Draft → ℕ → ReportedPlan
   told_by d wide = record { machine = d.machine; stages = d.stages; wide = wide; certificates = d.certificates.items }

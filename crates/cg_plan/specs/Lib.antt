@@ -1,3 +1,4 @@
 pub mod Planning
+pub mod Lists
 pub mod Trial
 pub mod inner

@@ -4,3 +4,4 @@ pub mod Measuring
 pub mod Deciding
 pub mod Inserting
 pub mod Judging
+pub mod Telling

@@ -1,15 +1,18 @@
 //! The plan of a machine, in the making and whole.
 
-ghost use Rattle.std.specs.Prelude.{◌≡◌, IfOk, IfErr, OnOk, true};
+ghost use Rattle.std.specs.Prelude.{◌≡◌, ◌+◌, [], length, sum, IfOk, IfErr, OnOk, true};
 ghost use Rattle.std.specs.Option.{option_copied};
+ghost use Rattle.cg_hold.specs.Progress.{Hears, HearsFirst, OneCourse, WholeCourse, list_told};
 ghost use Rattle.cg_stage_list_laws.specs.Literals.{FitZeroCounts};
 ghost use Rattle.cg_plan_laws.specs.Cleared.{AllCleared, IsCleared};
 ghost use Rattle.cg_plan_laws.specs.Plan.{plan_of, rounds, try_all, try_one};
 ghost use Rattle.cg_plan_laws.specs.Reported.{IsPlan, PlanMayFail};
 ghost use Rattle.cg_plan_laws.specs.declared.settings.Settings.{Settings};
+ghost use Rattle.cg_plan.specs.Lists.{counts_from, list_counts, round_counts};
 ghost use Rattle.cg_plan.specs.Planning.{AreWritable, IsSafePlan, told};
 ghost use Rattle.cg_stage_list_laws.specs.Fit.{AllFit};
 ghost use Rattle.cg_plan.specs.inner.Drafting.{IsDraft, Leads, MayStop, StayCleared, StillFit, all_parts, earlier_by, kept, round_list, unbegun};
+ghost use Rattle.cg_plan.specs.inner.Telling.{LeadsFirst, LeadsLists};
 ghost use Rattle.cg_claim_reach.specs.Fanout.{Knows};
 ghost use Rattle.cg_stage_laws.specs.Stages.{Fits};
 
@@ -54,8 +57,8 @@ pub struct Plan {
 ///
 /// The counts are one number for each net of the machine, none above the number of rows.
 ///
-/// Of each register that the search for hold stages looks at, and of each stage, `progress` is told before; and it is told when
-/// the planning ends, whatever ends it.
+/// Of each register that the search for hold stages looks at, and of each stage, `progress` is told before, in order; and once and last it
+/// is told that the planning has ended, whatever ends it.
 ///
 /// It is refused where a stage would be, or a claim of a register and a literal that are looked at for the hold stages, by the
 /// limit that comes first in the order of the plan.
@@ -72,6 +75,10 @@ pub fn make_plan(
     ensures writable { IfOk result (λ plan. AreWritable plan.certificates) }
     ensures safe { IfOk result (λ plan. IsSafePlan library.now settings.now machine plan.machine) }
     ensures fault { IfErr result (PlanMayFail (plan_of library.now settings.now (option_copied counts.entry) machine).limit) }
+    ensures course { OneCourse machine.own_registers (list_counts library.now settings.now (option_copied counts.entry) machine) (heard progress.old) (heard progress.new) }
+    ensures whole { OnOk result (WholeCourse machine.own_registers (list_counts library.now settings.now (option_copied counts.entry) machine) (heard progress.old)
+        (heard progress.new)) }
+    ensures counted { IfOk result (λ plan. sum (list_counts library.now settings.now (option_copied counts.entry) machine) ≡ length plan.stages) }
 {
     let _netlist = machine.netlist();
     let found = match candidates(alloc, &machine, settings.width, counts, progress) {
@@ -135,7 +142,8 @@ struct Draft {
 impl Draft {
     /// A plan of which nothing was tried.
     pub fn new(alloc: Global, machine: Machine) -> Draft
-        ensures { (settings : Settings) → IsDraft settings (unbegun machine) result }
+        ensures draft { (settings : Settings) → IsDraft settings (unbegun machine) result }
+        ensures none { result.stages ≡ [] }
     {
         Draft {
             alloc,
@@ -169,6 +177,8 @@ impl Draft {
         requires cleared { AllCleared self.old.machine rules.now.settings.now.width holds }
         ensures leads { OnOk result (Leads rules.now.settings.now (all_parts rules.now.library.now rules.now.settings.now holds) self.old self.new) }
         ensures fault { IfErr result (MayStop rules.now.settings.now (all_parts rules.now.library.now rules.now.settings.now holds) self.old) }
+        ensures first { LeadsFirst rules.now.settings.now (counts_from rules.now.library.now rules.now.settings.now holds) self.old (heard progress.old) (heard progress.new) }
+        ensures all { OnOk result (LeadsLists rules.now.settings.now (counts_from rules.now.library.now rules.now.settings.now holds) self.old self.new (heard progress.old) (heard progress.new)) }
     {
         self.try_all(holds, true, rules, progress)?;
         self.rounds(StageKind::Stable, rules, progress)?;
@@ -185,6 +195,8 @@ impl Draft {
         ensures leads { OnOk result
             (Leads rules.now.settings.now (rounds rules.now.library.now rules.now.settings.now kind rules.now.settings.now.rounds) self.old self.new) }
         ensures fault { IfErr result (MayStop rules.now.settings.now (rounds rules.now.library.now rules.now.settings.now kind rules.now.settings.now.rounds) self.old) }
+        ensures first { LeadsFirst rules.now.settings.now (round_counts rules.now.library.now rules.now.settings.now kind rules.now.settings.now.rounds) self.old (heard progress.old) (heard progress.new) }
+        ensures all { OnOk result (LeadsLists rules.now.settings.now (round_counts rules.now.library.now rules.now.settings.now kind rules.now.settings.now.rounds) self.old self.new (heard progress.old) (heard progress.new)) }
     {
         for _ in 0..rules.settings.rounds {
             let stages = self.candidates(kind, rules.settings)?;
@@ -226,6 +238,9 @@ impl Draft {
         requires cleared { cleared ≡ true → AllCleared self.old.machine rules.now.settings.now.width stages }
         ensures leads { OnOk result (Leads rules.now.settings.now (λ p. try_all rules.now.library.now rules.now.settings.now p stages) self.old self.new) }
         ensures fault { IfErr result (MayStop rules.now.settings.now (λ p. try_all rules.now.library.now rules.now.settings.now p stages) self.old) }
+        ensures counted { OnOk result (length self.new.stages ≡ length self.old.stages + length stages) }
+        ensures first { HearsFirst (heard progress.old) (list_told (length self.old.stages) (length stages)) (heard progress.new) }
+        ensures all { OnOk result (Hears (heard progress.old) (list_told (length self.old.stages) (length stages)) (heard progress.new)) }
     {
         // What reads the nets is found once for all of them, and grown with the machine.
         let mut fanout = Fanout::new(self.alloc);
@@ -236,6 +251,7 @@ impl Draft {
     }
 
     /// Tries stages that fit, one after the other, and tells of each.
+    #[tactic(auto, using(crate::proofs::Telling::list_begun))]
     fn try_listed(
         &mut self,
         stages: Seq<Stage>,
@@ -249,31 +265,35 @@ impl Draft {
         requires knows { Knows self.old.machine fanout.old }
         ensures leads { OnOk result (Leads rules.now.settings.now (λ p. try_all rules.now.library.now rules.now.settings.now p stages) self.old self.new) }
         ensures fault { IfErr result (MayStop rules.now.settings.now (λ p. try_all rules.now.library.now rules.now.settings.now p stages) self.old) }
+        ensures counted { OnOk result (length self.new.stages ≡ length self.old.stages + length stages) }
+        ensures first { HearsFirst (heard progress.old) (list_told (length self.old.stages) (length stages)) (heard progress.new) }
+        ensures all { OnOk result (Hears (heard progress.old) (list_told (length self.old.stages) (length stages)) (heard progress.new)) }
     {
-        let listed = self.stages.len().saturating_add(stages.len());
+        let Some(listed) = self.stages.len().checked_add(stages.len()) else {
+            return Err(AddFault::NoMemory);
+        };
         for stage in stages.into_vec() {
-            self.tell_next(listed, progress);
-            self.try_one(stage, cleared, fanout, rules)?;
+            let number = next_number(self.stages.len())?;
+            progress.trying(number as usize, listed);
+            self.try_one(stage, number, cleared, fanout, rules)?;
         }
         Ok(())
     }
 
-    /// Tells of the stage that is tried next, one of so many that are listed so far.
-    fn tell_next(&self, listed: usize, progress: &mut dyn Progress) {
-        progress.trying(self.stages.len().saturating_add(1), listed);
-    }
-
-    /// Tries a stage that fits.
+    /// Tries a stage that fits, the one with this number.
     fn try_one(
         &mut self,
         stage: Stage,
+        number: u32,
         cleared: bool,
         fanout: &mut Fanout,
         rules: &Rules<'_>,
     ) -> Result<(), AddFault>
         requires fits { Fits self.old.machine stage }
+        requires number { number ≡ length self.old.stages + 1 }
         requires cleared { cleared ≡ true → IsCleared self.old.machine rules.now.settings.now.width stage }
         requires knows { Knows self.old.machine fanout.old }
+        ensures counted { OnOk result (length self.new.stages ≡ number) }
         ensures knows { OnOk result (Knows self.new.machine fanout.new) }
         ensures leads { OnOk result (Leads rules.now.settings.now (λ p. try_one rules.now.library.now rules.now.settings.now p stage) self.old self.new) }
         ensures fault { IfErr result (MayStop rules.now.settings.now (λ p. try_one rules.now.library.now rules.now.settings.now p stage) self.old) }
@@ -281,7 +301,6 @@ impl Draft {
         ensures clear { OnOk result (StayCleared rules.now.settings.now.width stage self.old.machine self.new.machine) }
     {
         let _netlist = self.machine.netlist();
-        let number = next_number(self.stages.len())?;
         let entry = Entry {
             number,
             stage: &stage,

@@ -8,7 +8,7 @@ use Rattle.std.specs.Fmt.{digits}
 use Rattle.std.specs.List.{slice_get}
 use Rattle.cg_machine.specs.Machine.{MachineData}
 use Rattle.cg_netlist.specs.Nets.{nets_of}
-use Rattle.cg_cell.specs.Cell.{CellData}
+use Rattle.cg_cell.specs.Cell.{CellData, no_control}
 use Rattle.cg_cell.specs.Pins.{PinData}
 use Rattle.cg_cell.specs.Term.{Term, Input, Inverse, Both, Either}
 use Rattle.cg_cell.specs.declared.cell.CellKind.TheVariants.{Logic, Gater}
@@ -33,7 +33,7 @@ abbrev mux_rows : CoverData
 mux_rows = record { rows = (Some true ∷ Some true ∷ None ∷ []) ∷ (Some false ∷ None ∷ Some true ∷ []) ∷ []; on = true }
 
 abbrev latch : ℕ → ℕ → RegisterCell ℕ ℕ
-latch input output = record { inputs = input ∷ []; outputs = (output, false) ∷ []; pins = 0 ∷ []; clock = 0; kind = Plain; init = 0 }
+latch input output = record { inputs = input ∷ []; controls = []; outputs = (output, false) ∷ []; pins = 0 ∷ []; clock = 0; kind = Plain; init = 0 }
 
 abbrev cover : CoverData → List ℕ → ℕ → LogicCell ℕ
 cover rows inputs output = record { inputs = inputs; output = output; function = Cover rows }
@@ -75,14 +75,14 @@ abbrev pin_y : PinData
 pin_y = record { name = 89 ∷ []; role = Output }
 
 abbrev lib : List CellData
-lib = record { name = 73 ∷ []; kind = Gater; pins = record { name = 67 ∷ []; role = Clock } ∷ record { name = 69 ∷ []; role = Enable } ∷ pin_y ∷ []; function = None }
-    ∷ record { name = 78 ∷ []; kind = Logic; pins = pin_a ∷ pin_y ∷ []; function = Some (Inverse (Input 0)) }
-    ∷ record { name = 79 ∷ []; kind = Logic; pins = pin_a ∷ pin_b ∷ pin_y ∷ []; function = Some (Both (Input 0) (Input 1)) }
-    ∷ record { name = 80 ∷ []; kind = Logic; pins = pin_a ∷ pin_b ∷ pin_y ∷ []; function = Some (Either (Input 0) (Input 1)) } ∷ []
+lib = record { name = 73 ∷ []; kind = Gater; pins = record { name = 67 ∷ []; role = Clock } ∷ record { name = 69 ∷ []; role = Enable } ∷ pin_y ∷ []; function = None; control = no_control }
+    ∷ record { name = 78 ∷ []; kind = Logic; pins = pin_a ∷ pin_y ∷ []; function = Some (Inverse (Input 0)); control = no_control }
+    ∷ record { name = 79 ∷ []; kind = Logic; pins = pin_a ∷ pin_b ∷ pin_y ∷ []; function = Some (Both (Input 0) (Input 1)); control = no_control }
+    ∷ record { name = 80 ∷ []; kind = Logic; pins = pin_a ∷ pin_b ∷ pin_y ∷ []; function = Some (Either (Input 0) (Input 1)); control = no_control } ∷ []
 
 -- the same with a gating cell that has a test input
 abbrev lib_test : List CellData
-lib_test = record { name = 74 ∷ []; kind = Gater; pins = record { name = 67 ∷ []; role = Clock } ∷ record { name = 69 ∷ []; role = Enable } ∷ record { name = 83 ∷ []; role = Test } ∷ pin_y ∷ []; function = None } ∷ lib
+lib_test = record { name = 74 ∷ []; kind = Gater; pins = record { name = 67 ∷ []; role = Clock } ∷ record { name = 69 ∷ []; role = Enable } ∷ record { name = 83 ∷ []; role = Test } ∷ pin_y ∷ []; function = None; control = no_control } ∷ lib
 
 abbrev usual : Settings
 usual = record { min = 1; width = 32; rounds = 4; test = false; proof = false }
@@ -102,7 +102,7 @@ six_name : slice_get (plan_of lib usual None row_six).machine.circuit.names 6 �
 unfolding is_never nets_of digits
 six_name = refl
 
-six_delay : slice_get (plan_of lib usual None row_six).machine.circuit.registers 2 ≡ Some (record { inputs = 1 ∷ []; outputs = (6, false) ∷ []; pins = 0 ∷ []; clock = 0; kind = Plain; init = 1 })
+six_delay : slice_get (plan_of lib usual None row_six).machine.circuit.registers 2 ≡ Some (record { inputs = 1 ∷ []; controls = []; outputs = (6, false) ∷ []; pins = 0 ∷ []; clock = 0; kind = Plain; init = 1 })
 unfolding is_never nets_of
 six_delay = refl
 

@@ -43,6 +43,7 @@ still_fits m n s0 s good after apart fits = record {
   guards = λ r among. let b = fits.guards r among in omega (arith, b, after.count);
   apart = fits.apart;
   kind = fits.kind;
+  controls = after.controls s fits;
 }
 
 all_still : (m n : MachineData) (s0 : Stage) (stages : List Stage) → IsMachine m → After m s0 n → AreApart s0.regs stages → AllFit m stages → AllFit n stages

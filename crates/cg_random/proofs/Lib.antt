@@ -1,2 +1,3 @@
 pub mod RowLaws
 mod Making
+pub mod Finding

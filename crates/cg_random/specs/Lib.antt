@@ -1,2 +1,5 @@
+pub mod Held
+pub mod Laws
 pub mod RandomRows
+pub mod Sources
 pub mod inner

@@ -1,9 +1,10 @@
--- Rows made by chance: a function of their number and of the number of data inputs.
-use Rattle.std.specs.Prelude.{ℕ, zero, suc, ◌/◌, ◌%◌, nat_eq, nat_le, Bool, if◌then◌else◌, List, [], ◌∷◌, length, Result, Ok, Err}
+-- Rows made by chance: a function of their number, of the number of data inputs, and of the inputs that are held.
+use Rattle.std.specs.Prelude.{ℕ, zero, suc, ◌+◌, ◌/◌, ◌%◌, nat_eq, nat_le, nat_lt, Bool, if◌then◌else◌, List, [], ◌∷◌, length, Result, Ok, Err}
 use Rattle.cg_limit.specs.declared.Limit.TheVariants as limits
 use Rattle.cg_limit.specs.declared.TheConstants.{MOST_ROWS}
 use Rattle.cg_netlist.specs.declared.fault.AddFault.{AddFault}
 use Rattle.cg_netlist.specs.declared.fault.AddFault.TheVariants.{Limit as LimitFault}
+use Rattle.cg_random.specs.Held.{holding}
 use Rattle.rand_pcg.specs.Lcg.{Lcg, increment_of, started}
 use Rattle.rand_pcg.specs.Pcg.{multiplier_64, pcg32}
 
@@ -43,15 +44,21 @@ abbrev pub next_row : List Bool → Lcg → List Bool
 next_row [] generator = []
 next_row (bit ∷ row) generator = next_bit bit (word generator) ∷ next_row row (behind_word generator)
 
--- so many rows, of which this is the first
-abbrev pub rows_from : ℕ → List Bool → Lcg → List (List Bool)
-rows_from zero row generator = []
-rows_from (suc n) row generator = row ∷ rows_from n (next_row row generator) (behind (length row) generator)
+-- from the sixth row on, before which five were made, some places are held, each at its bit
+abbrev pub shown_row : List (ℕ × Bool) → ℕ → List Bool → List Bool
+shown_row held made row = if nat_lt made 5 then row else holding held row
 
--- so many rows for so many data inputs
-abbrev pub random_rows : ℕ → ℕ → List (List Bool)
-random_rows count width = rows_from count (first_row width first_generator) (behind width first_generator)
+-- so many rows, behind so many, of which this is the first before places are held
+abbrev pub rows_from : List (ℕ × Bool) → ℕ → ℕ → List Bool → Lcg → List (List Bool)
+rows_from held made zero row generator = []
+rows_from held made (suc n) row generator =
+    let shown = shown_row held made row in
+    shown ∷ rows_from held (made + 1) n (next_row shown generator) (behind (length shown) generator)
+
+-- so many rows for so many data inputs, of which these are held
+abbrev pub random_rows : List (ℕ × Bool) → ℕ → ℕ → List (List Bool)
+random_rows held count width = rows_from held 0 count (first_row width first_generator) (behind width first_generator)
 
 -- the same, as far as a stimulus may have so many
-abbrev pub random_found : ℕ → ℕ → Result (List (List Bool)) AddFault
-random_found count width = if nat_le count MOST_ROWS then Ok (random_rows count width) else Err (LimitFault limits.Rows)
+abbrev pub random_found : List (ℕ × Bool) → ℕ → ℕ → Result (List (List Bool)) AddFault
+random_found held count width = if nat_le count MOST_ROWS then Ok (random_rows held count width) else Err (LimitFault limits.Rows)

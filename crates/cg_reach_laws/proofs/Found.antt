@@ -10,10 +10,11 @@ use Rattle.cg_netlist.proofs.Driven.{is_in-range}
 use Rattle.cg_netlist.proofs.Filtered.{to_filter}
 use Rattle.cg_netlist.proofs.Given.{from_option}
 use Rattle.cg_netlist_cone.proofs.Cones.{cone_closed}
-use Rattle.cg_machine.specs.Machine.{IsMachine, MachineData, enable_of, walk_of}
+use Rattle.cg_machine.specs.Claims.{lasting_enable}
+use Rattle.cg_machine.specs.Machine.{IsMachine, MachineData, walk_of}
 use Rattle.cg_claim.specs.Question.{Copy, Before, After, Changed, CopyPart, Net, Next, State, Enable, Side, Question}
 use Rattle.cg_claim.specs.Reach.{after_nets, after_states, before_nets, changed_nets, changed_states, enable_nets, feeds, next_asks_own}
-use Rattle.cg_claim.specs.Reach.{next_nets, origin_asks, origin_nets, part_asks, part_nets, registers_of, sides_ask, sides_nets}
+use Rattle.cg_claim.specs.Reach.{next_nets, origin_asks, origin_nets, part_asks, part_nets, registers_of, sides_ask, sides_nets, takes_next}
 use Rattle.cg_claim.specs.Violates.{SidesFit}
 use Rattle.cg_claim.specs.inner.Copies.{nets_reached, states_reached}
 use Rattle.cg_claim.proofs.Reached.{after_within, enables_in, origins_in, side_asks_in, side_nets_in}
@@ -94,12 +95,12 @@ module _ (m : MachineData) (q : Question) (good : IsMachine m) (fits : SidesFit 
       or_right (feeds m (after_nets m q) r) (sides_ask m After q.sides r || (changed_states m q r && not (is_in q.changes r)))
       (or_right (sides_ask m After q.sides r) (changed_states m q r && not (is_in q.changes r)) (and_from (changed_states m q r) (not (is_in q.changes r)) met (not_from_false (is_in q.changes r) apart)))
   asks_met part next (taken r follows) met = (
-    (λ y among. origin_net r y met (ap (λ b. is_in (if b then next_nets m r else option_to_list (enable_of m r)) y) follows ∙ among)),
-    (λ own. origin_bit r met (ap (λ b. if b then next_asks_own m r else is_some (enable_of m r)) follows ∙ own)),
+    (λ y among. origin_net r y met (ap (λ b. is_in (if b then next_nets m r else option_to_list (lasting_enable m r)) y) follows ∙ among)),
+    (λ own. origin_bit r met (ap (λ b. if b then next_asks_own m r else is_some (lasting_enable m r)) follows ∙ own)),
   )
   asks_met part next (enabled r e apart is) met =
-      origin_net r e met (ap (λ b. is_in (if b then next_nets m r else option_to_list (enable_of m r)) e) apart ∙ from_option (enable_of m r) e is)
-  asks_met part next (kept r e apart is) met = origin_bit r met (ap (λ b. if b then next_asks_own m r else is_some (enable_of m r)) apart ∙ ap is_some is)
+      origin_net r e met (ap (λ b. is_in (if b then next_nets m r else option_to_list (lasting_enable m r)) e) apart ∙ from_option (lasting_enable m r) e is)
+  asks_met part next (kept r e apart is) met = origin_bit r met (ap (λ b. if b then next_asks_own m r else is_some (lasting_enable m r)) apart ∙ ap is_some is)
 
   pub led_met : (part : Side) → Leads m q part → MetIn part.copy part.part
   led_met part (begins goal is) = goal_met goal is

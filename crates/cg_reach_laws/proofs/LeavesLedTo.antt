@@ -12,7 +12,7 @@ use Rattle.cg_claim.specs.Leaves.{Leaf, is_reached, is_source, leaves_at, leaves
 use Rattle.cg_claim.specs.declared.leaf.LeafSource.{LeafSource}
 use Rattle.cg_claim.specs.declared.leaf.LeafSource.TheVariants.{Input, Register}
 use Rattle.cg_claim.specs.Question.{Copy, Before, After, Changed, Net, State, Question}
-use Rattle.cg_claim.specs.Reach.{after_nets, after_states, changed_nets, changed_states, registers_of}
+use Rattle.cg_claim.specs.Reach.{after_nets, after_states, changed_nets, changed_states, registers_of, takes_next}
 use Rattle.cg_claim.specs.Violates.{SidesFit}
 use Rattle.cg_claim.proofs.LeafOrder.{leaves_apart, place_of}
 use Rattle.cg_claim.proofs.LeavesFound.{leaf_among, leaf_is}
@@ -68,7 +68,7 @@ module _ (m : MachineData) (q : Question) (good : IsMachine m) where
         leaf_among m q Before (Register r) (register_source r (before_within m q fits r reached)) reached
     leaf_found l (bit_after r apart way) =
         let reached = led_met m q good fits (in_copy After (State r)) way in
-        leaf_among m q After (Register r) (register_source r (after_within m q fits r reached)) (and_from (after_states m q r) (not (is_in q.follows r)) reached (not_from_false (is_in q.follows r) apart))
+        leaf_among m q After (Register r) (register_source r (after_within m q fits r reached)) (and_from (after_states m q r) (not (takes_next m q r)) reached (not_from_false (takes_next m q r) apart))
     leaf_found l (bit_changed r may way) =
         let reached = led_met m q good fits (in_copy Changed (State r)) way in
         leaf_among m q Changed (Register r) (register_source r (changed_within m q fits r reached)) (and_from (changed_states m q r) (is_in q.changes r) reached may)
@@ -97,7 +97,7 @@ module _ (m : MachineData) (q : Question) (good : IsMachine m) where
     | inr last ↦ input_changed y is (changed_net m q good y last)
   ]
   led After (Register r) is reached =
-      let both = and_parts (after_states m q r) (not (is_in q.follows r)) reached in bit_after r (not-true (is_in q.follows r) both.1) (after_bit m q good r both.0)
+      let both = and_parts (after_states m q r) (not (takes_next m q r)) reached in bit_after r (not-true (takes_next m q r) both.1) (after_bit m q good r both.0)
   led Changed (Input y) is reached = absurd (both_ways false refl reached)
   led Changed (Register r) is reached = let both = and_parts (changed_states m q r) (is_in q.changes r) reached in bit_changed r both.1 (changed_bit m q good r both.0)
 

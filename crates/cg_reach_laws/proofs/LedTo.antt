@@ -11,11 +11,12 @@ use Rattle.cg_netlist.proofs.Filtered.{in_filter}
 use Rattle.cg_netlist.proofs.Given.{in_option}
 use Rattle.cg_netlist_cone.specs.Cone.{Reaches, cone_of, here, through}
 use Rattle.cg_netlist_cone.proofs.Cones.{cone_is}
-use Rattle.cg_machine.specs.Machine.{IsMachine, MachineData, enable_of, walk_of}
+use Rattle.cg_machine.specs.Claims.{lasting_enable}
+use Rattle.cg_machine.specs.Machine.{IsMachine, MachineData, walk_of}
 use Rattle.cg_claim.specs.Question.{Copy, Before, After, Changed, CopyPart, Net, Next, State, Enable, Side, Question}
 use Rattle.cg_claim.specs.Reach.{after_nets, after_states, before_nets, before_states, changed_nets, changed_states, enable_nets, feeds}
 use Rattle.cg_claim.specs.Reach.{next_asks_own, next_nets, origin_asks, origin_nets, part_asks, part_nets, registers_of, same_copy}
-use Rattle.cg_claim.specs.Reach.{side_asks, side_nets, sides_ask, sides_nets}
+use Rattle.cg_claim.specs.Reach.{side_asks, side_nets, sides_ask, sides_nets, takes_next}
 use Rattle.cg_claim.proofs.LeavesFound.{copy_is}
 use Rattle.cg_reach_laws.specs.Paths.{Leads, begins, by_cell, by_literal, by_next, by_own, by_register, enabled, goes_on, in_copy}
 use Rattle.cg_reach_laws.specs.Paths.{joined, kept, one, other, taken, unchanged}
@@ -130,22 +131,22 @@ module _ (m : MachineData) (q : Question) (good : IsMachine m) where
   ]
 
   origin_net : (r y : ℕ) → To After (State r) → is_in (origin_nets m q r) y ≡ true → To Before (Net y)
-  origin_net r y way among = go (is_in q.follows r) refl among
+  origin_net r y way among = go (takes_next m q r) refl among
     where
-      go : (b : Bool) → is_in q.follows r ≡ b → is_in (if b then next_nets m r else option_to_list (enable_of m r)) y ≡ true → To Before (Net y)
+      go : (b : Bool) → takes_next m q r ≡ b → is_in (if b then next_nets m r else option_to_list (lasting_enable m r)) y ≡ true → To Before (Net y)
       go true is h = goes_on (in_copy Before (Next r)) (in_copy Before (Net y)) (goes_on (in_copy After (State r)) (in_copy Before (Next r)) way (taken r is)) (by_next Before r y h)
-      go false is h = goes_on (in_copy After (State r)) (in_copy Before (Net y)) way (enabled r y is (in_option (enable_of m r) y h))
+      go false is h = goes_on (in_copy After (State r)) (in_copy Before (Net y)) way (enabled r y is (in_option (lasting_enable m r) y h))
 
   origin_bit : (r : ℕ) → To After (State r) → origin_asks m q r ≡ true → To Before (State r)
-  origin_bit r way asks = go (is_in q.follows r) refl asks
+  origin_bit r way asks = go (takes_next m q r) refl asks
     where
-      some : (o : Option ℕ) → enable_of m r ≡ o → is_in q.follows r ≡ false → is_some o ≡ true → To Before (State r)
+      some : (o : Option ℕ) → lasting_enable m r ≡ o → takes_next m q r ≡ false → is_some o ≡ true → To Before (State r)
       some None at is h = absurd (both_ways false refl h)
       some (Some e) at is h = goes_on (in_copy After (State r)) (in_copy Before (State r)) way (kept r e is at)
 
-      go : (b : Bool) → is_in q.follows r ≡ b → (if b then next_asks_own m r else is_some (enable_of m r)) ≡ true → To Before (State r)
+      go : (b : Bool) → takes_next m q r ≡ b → (if b then next_asks_own m r else is_some (lasting_enable m r)) ≡ true → To Before (State r)
       go true is h = goes_on (in_copy Before (Next r)) (in_copy Before (State r)) (goes_on (in_copy After (State r)) (in_copy Before (Next r)) way (taken r is)) (by_own Before r h)
-      go false is h = some (enable_of m r) refl is h
+      go false is h = some (lasting_enable m r) refl is h
 
   before_root : (y : ℕ) → is_in (enable_nets q ++ sides_nets m (enable_nets q) Before q.sides ++ flat_map (origin_nets m q) (filter (after_states m q) (registers_of m))) y ≡ true → To Before (Net y)
   before_root y among = elim (is_in_cases (enable_nets q ++ sides_nets m (enable_nets q) Before q.sides) (flat_map (origin_nets m q) (filter (after_states m q) (registers_of m))) y among) [

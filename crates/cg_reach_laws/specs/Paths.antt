@@ -2,11 +2,12 @@
 use Rattle.std.specs.Prelude.{◌≡◌, ℕ, true, false, slice_get, Some}
 use Rattle.cg_netlist.specs.Circuit.{LogicCell, RegisterCell, data_inputs, shown_nets}
 use Rattle.cg_net.specs.NetSets.{is_in}
-use Rattle.cg_machine.specs.Machine.{MachineData, enable_of}
+use Rattle.cg_machine.specs.Claims.{lasting_enable}
+use Rattle.cg_machine.specs.Machine.{MachineData}
 use Rattle.cg_claim.specs.Leaves.{Leaf}
 use Rattle.cg_claim.specs.declared.leaf.LeafSource.TheVariants.{Input, Register}
 use Rattle.cg_claim.specs.Question.{Copy, Before, After, Changed, CopyPart, Net, Next, State, Enable, Side, Question}
-use Rattle.cg_claim.specs.Reach.{enable_nets, next_asks_own, next_nets}
+use Rattle.cg_claim.specs.Reach.{enable_nets, next_asks_own, next_nets, takes_next}
 
 -- a part of a copy
 abbrev pub in_copy : Copy → CopyPart → Side
@@ -17,8 +18,8 @@ in_copy copy part = record { copy = copy; part = part }
 -- enable or its function names it. The joined enable asks for the nets of its literals.
 --
 -- A bit in the last copy asks for that in the copy before it, unless it may be another. A bit after the first cycle asks, where the
--- register holds its next bit then, for that next bit in the first cycle; and else, where the register has an enable, for that
--- enable and for its bit in the first cycle.
+-- register holds its next bit then, for that next bit in the first cycle; and else, where the register has an enable and no controls,
+-- for that enable and for its bit in the first cycle. Of a register with controls and an enable no next bit is held.
 pub data Asks (m : MachineData) (q : Question) : Side → Side → Type 0 where
   by_cell : (copy : Copy) (k : ℕ) (cell : LogicCell ℕ) (y : ℕ) → slice_get m.circuit.cells k ≡ Some cell → is_in cell.inputs y ≡ true
       → Asks m q (in_copy copy (Net cell.output)) (in_copy copy (Net y))
@@ -28,9 +29,9 @@ pub data Asks (m : MachineData) (q : Question) : Side → Side → Type 0 where
   by_own : (copy : Copy) (r : ℕ) → next_asks_own m r ≡ true → Asks m q (in_copy copy (Next r)) (in_copy copy (State r))
   by_literal : (copy : Copy) (y : ℕ) → is_in (enable_nets q) y ≡ true → Asks m q (in_copy copy Enable) (in_copy copy (Net y))
   unchanged : (r : ℕ) → is_in q.changes r ≡ false → Asks m q (in_copy Changed (State r)) (in_copy After (State r))
-  taken : (r : ℕ) → is_in q.follows r ≡ true → Asks m q (in_copy After (State r)) (in_copy Before (Next r))
-  enabled : (r e : ℕ) → is_in q.follows r ≡ false → enable_of m r ≡ Some e → Asks m q (in_copy After (State r)) (in_copy Before (Net e))
-  kept : (r e : ℕ) → is_in q.follows r ≡ false → enable_of m r ≡ Some e → Asks m q (in_copy After (State r)) (in_copy Before (State r))
+  taken : (r : ℕ) → takes_next m q r ≡ true → Asks m q (in_copy After (State r)) (in_copy Before (Next r))
+  enabled : (r e : ℕ) → takes_next m q r ≡ false → lasting_enable m r ≡ Some e → Asks m q (in_copy After (State r)) (in_copy Before (Net e))
+  kept : (r e : ℕ) → takes_next m q r ≡ false → lasting_enable m r ≡ Some e → Asks m q (in_copy After (State r)) (in_copy Before (State r))
 
 -- the goal asks for the joined enable in the first cycle, and for its two sides
 pub data IsGoal (q : Question) : Side → Type 0 where
@@ -51,5 +52,5 @@ pub data IsLeaf (m : MachineData) (q : Question) : Leaf → Type 0 where
   input_after : (y : ℕ) → is_in (data_inputs m.circuit) y ≡ true → Leads m q (in_copy After (Net y)) → IsLeaf m q (record { copy = After; source = Input y })
   input_changed : (y : ℕ) → is_in (data_inputs m.circuit) y ≡ true → Leads m q (in_copy Changed (Net y)) → IsLeaf m q (record { copy = After; source = Input y })
   bit_before : (r : ℕ) → Leads m q (in_copy Before (State r)) → IsLeaf m q (record { copy = Before; source = Register r })
-  bit_after : (r : ℕ) → is_in q.follows r ≡ false → Leads m q (in_copy After (State r)) → IsLeaf m q (record { copy = After; source = Register r })
+  bit_after : (r : ℕ) → takes_next m q r ≡ false → Leads m q (in_copy After (State r)) → IsLeaf m q (record { copy = After; source = Register r })
   bit_changed : (r : ℕ) → is_in q.changes r ≡ true → Leads m q (in_copy Changed (State r)) → IsLeaf m q (record { copy = Changed; source = Register r })

@@ -1,11 +1,12 @@
 -- The lines of the rows are put behind a text while they are played.
 use Rattle.std.proofs.Common.{◌≡◌, ℕ, suc, ◌+◌, ◌<◌, ◌≤◌, Bool, List, [], ◌∷◌, ◌++◌, length, decimal, map, Result, Ok, Err, refl}
 use Rattle.std.proofs.Common.{sym, ap, ◌∙◌, append_assoc, append-nil, arith}
-use Rattle.std.specs.List.{All, flat_map}
+use Rattle.std.specs.List.{All}
 use Rattle.std.specs.Result.{OnOk}
-use Rattle.cg_netlist.specs.Circuit.{Circuit, LogicCell, RegisterCell, asked_nets, used_nets}
+use Rattle.cg_netlist.proofs.Used.{output_is_used}
+use Rattle.cg_netlist.specs.Circuit.{Circuit, used_nets}
 use Rattle.cg_netlist.specs.WellFormed.{IsWellFormed}
-use Rattle.cg_net.proofs.Members.{All-from_members, All-member, is_in_right}
+use Rattle.cg_net.proofs.Members.{All-from_members, All-member}
 use Rattle.cg_netlist.specs.History.{Moment}
 use Rattle.cg_netlist.specs.Moment.{bit}
 use Rattle.cg_stimulus.specs.Played.{IsPlayed, played_wave}
@@ -92,8 +93,7 @@ line_of c one two number n low high text t0 t1 t2 t3 one_is two_is n_is p0 p1 p2
 -- outputs are nets
 pub outputs_within : (c : Circuit) → IsWellFormed c → (n : ℕ) → n ≡ length c.names → All (λ net. net < n) c.outputs
 outputs_within c good n is =
-    let others = flat_map (λ (cell : LogicCell ℕ). cell.inputs) c.cells ++ flat_map asked_nets c.gaters ++ flat_map (λ (register : RegisterCell ℕ ℕ). register.inputs) c.registers in
-    All-from_members (λ net. net < n) c.outputs (λ x among. let below = All-member (λ net. net < length c.names) (used_nets c) x good.used (is_in_right others c.outputs x among) in omega (arith, below, is))
+    All-from_members (λ net. net < n) c.outputs (λ x among. let below = All-member (λ net. net < length c.names) (used_nets c) x good.used (output_is_used c x among) in omega (arith, below, is))
 
 -- a word of bits, where there are outputs
 pub word_of : (outputs : List ℕ) (nets : List Bool) → (outputs ≡ [] → ⊥) → output_word outputs nets ≡ map (λ net. bit_byte (bit nets net)) outputs

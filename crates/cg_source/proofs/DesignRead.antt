@@ -57,7 +57,7 @@ module _ {D : Type 0} (permits : List CellData → D → Circuit → Result Circ
   pub record FilesRead (asked : Option StimulusForm) (c : Circuit) (end : DesignFiles D) : Type 0 where
     pub library_text : List ℕ
     pub library_loaded : given roles.Library ≡ Some (Ok library_text)
-    pub library_is : library_found library_text ≡ Ok end.library
+    pub library_is : library_found options.accept library_text ≡ Ok end.library
     pub demanded : end.demand ≡ demand
     pub asks : end.asked ≡ asked
     pub text : List ℕ
@@ -73,10 +73,10 @@ module _ {D : Type 0} (permits : List CellData → D → Circuit → Result Circ
     pub hints : FindsHints given hinted netlist end.hints
 
   read_two : (asked : Option StimulusForm) (library_text text : List ℕ) (one two : DesignFiles D) (library : List CellData) (c : Circuit) (chance : Option Rows) → given roles.Library ≡ Some (Ok library_text)
-      → given roles.Netlist ≡ Some (Ok text) → library_found library_text ≡ Ok library → record (design_start demand options asked) { library = library } ≡ one
+      → given roles.Netlist ≡ Some (Ok text) → library_found options.accept library_text ≡ Ok library → record (design_start demand options asked) { library = library } ≡ one
       → permitted permits one.form one.library (one.options).clock one.demand text ≡ Ok c → record one { netlist = Some c; stimulus = chance } ≡ two → FilesRead asked c two
   read_two asked library_text text one two library c chance first second is start found next =
-      let L : DesignFiles D → Type 0 = λ g. library_found library_text ≡ Ok g.library in
+      let L : DesignFiles D → Type 0 = λ g. library_found options.accept library_text ≡ Ok g.library in
       let F : DesignFiles D → Type 0 = λ g. permitted permits options.form g.library options.clock demand text ≡ Ok c in
       let G : DesignFiles D → Type 0 = λ g. permitted permits g.form g.library (g.options).clock g.demand text ≡ Ok c in
       record {
@@ -95,7 +95,7 @@ module _ {D : Type 0} (permits : List CellData → D → Circuit → Result Circ
   read_more : (asked : Option StimulusForm) (c : Circuit) (one two : DesignFiles D) (stimulus : Option Rows) (hints : Option (List Hint)) → FilesRead asked c one → record one { stimulus = stimulus; hints = hints } ≡ two
       → FilesRead asked c two
   read_more asked c one two stimulus hints read next =
-      let L : DesignFiles D → Type 0 = λ g. library_found read.library_text ≡ Ok g.library in
+      let L : DesignFiles D → Type 0 = λ g. library_found options.accept read.library_text ≡ Ok g.library in
       let F : DesignFiles D → Type 0 = λ g. permitted permits options.form g.library options.clock demand read.text ≡ Ok c in
       record {
         library_text = read.library_text;
@@ -157,7 +157,7 @@ module _ {D : Type 0} (permits : List CellData → D → Circuit → Result Circ
         let start : DesignFiles D = design_start demand options asked in
         let more : List Role = load_where (is_loaded asked) roles.Stimulus ++ load_where hinted roles.Hints in
         let one = step_of (design_takes permits) stops start roles.Library (roles.Netlist ∷ more) given end is in
-        let l = found_ok (λ (q : List CellData). record start { library = q }) (library_found one.bytes) one.next one.takes_it in
+        let l = found_ok (λ (q : List CellData). record start { library = q }) (library_found options.accept one.bytes) one.next one.takes_it in
         let two = step_of (design_takes permits) stops one.next roles.Netlist more given end one.later in
         let n = then_ok (permitted permits one.next.form one.next.library (one.next.options).clock one.next.demand two.bytes) (netlist_taken one.next) two.next two.takes_it in
         let t = found_ok (λ (q : Option Rows). record one.next { netlist = Some n.0; stimulus = q }) (chance_found one.next.asked n.0) two.next n.2 in

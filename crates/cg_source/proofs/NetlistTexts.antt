@@ -35,4 +35,4 @@ netlist_refused forms.Blif library clock text trouble cells named is = blif_refu
 netlist_refused forms.Verilog library clock text trouble cells named is = verilog_refused library clock text (record { cells = cells; named = named }) trouble is
 
 pub refused_for_first : (options : NetlistOptions) → IsNamedClock options.clock → RefusesForFirstFaults options
-refused_for_first options named cells text library trouble found is = netlist_refused options.form library options.clock text trouble (library_cells cells library found) named is
+refused_for_first options named cells text library trouble found is = netlist_refused options.form library options.clock text trouble (library_cells options.accept cells library found) named is

@@ -1,13 +1,14 @@
 -- The cells of a library that a text says are cells.
 use Rattle.std.proofs.Common.{◌≡◌, ◌+◌, ◌==◌, ℕ, Bool, true, false, cond, not, ◌&&◌, ◌||◌, IsTrue, List, [], ◌∷◌, ◌++◌}
 use Rattle.std.proofs.Common.{length, length-append, Option, None, Some, Result, Ok, Err, refl, sym, ◌∙◌, ap, subst, arith}
-use Rattle.std.specs.Prelude.{IfSome, codes}
-use Rattle.std.proofs.Common.{lit<, lit≤}
+use Rattle.std.specs.Prelude.{IfSome, codes, is_some, option_map}
+use Rattle.std.specs.Option.{option_map_or}
+use Rattle.std.proofs.Common.{lit<, lit≤, ◌<◌}
 use Rattle.std.proofs.lemmas.Bool.Decides.{nat_tests}
 use Rattle.std.specs.List.{AllByRecursion}
 use Rattle.std.specs.Global.{Box, Vec}
 use denote.RawPtr.{null_ptr}
-use Rattle.cg_cell.specs.Cell.{CellData, IsCell}
+use Rattle.cg_cell.specs.Cell.{CellData, ControlData, IsCell, no_control}
 use Rattle.cg_cell.specs.Expr.{term_of, term_step}
 use Rattle.cg_cell.specs.Name.{are_distinct, is_name}
 use Rattle.cg_cell.specs.Pins.{PinData}
@@ -23,17 +24,22 @@ use Rattle.cg_liberty_expression.proofs.Within.{read_within}
 use Rattle.cg_liberty_group.specs.Group.{is_there, states, text_of}
 use Rattle.cg_liberty_group.specs.declared.group.CellGroup.{CellGroup}
 use Rattle.cg_liberty_group.specs.declared.group.FlopGroup.{FlopGroup}
+use Rattle.cg_liberty_group.specs.declared.group.Stated.{Stated}
+use Rattle.cg_liberty_group.specs.declared.group.Stated.TheVariants.{Missing, Bare, Text}
 use Rattle.cg_liberty_group.specs.declared.group.Flops.{Flops}
 use Rattle.cg_liberty_group.specs.declared.group.Flops.TheVariants.{Absent, One, Several}
-use Rattle.cg_liberty.specs.Kinds.{all_known, are_flop_pins, are_gater_pins, cell_by_flops, cell_of, cell_with_ports, flop_clocked, flop_of, flop_pins}
-use Rattle.cg_liberty.specs.Kinds.{gater_of, gater_pins, gater_with, gating_cell, input_names, inverses_read, is_plain_flop, logic_of, output_texts, restated, state_names, unusable}
+use Rattle.cg_liberty.specs.Kinds.{FlopTerms, all_known, are_flop_pins, are_gater_pins, asked, asks_well, both_over, cell_by_flops, cell_of, cell_with_ports, control_over}
+use Rattle.cg_liberty.specs.Kinds.{flop_clocked, flop_controlled, flop_of, flop_of_terms, flop_pins, flop_read, flop_role, flop_with_parts, has_other_sets, names_inverse, read_if}
+use Rattle.cg_liberty.specs.Kinds.{gater_of, gater_pins, gater_with, gating_cell, input_names, inverses_of, is_plain_flop, logic_of, output_texts, state_names, unusable}
 use Rattle.cg_liberty.specs.LibText.{Describe, LibText, named_groups}
 use Rattle.cg_liberty.specs.Library.{cell_groups}
 use Rattle.cg_liberty.specs.Port.{ArePorts, ports_of}
 use Rattle.cg_liberty.specs.Reading.{reading, readings, taken, then_read}
 use Rattle.cg_liberty.specs.declared.fault.CellFault.{CellFault}
 use Rattle.cg_liberty.specs.declared.port.Port.{Port}
-use Rattle.cg_liberty.proofs.FlopCells.{flop_is_cell, lone_below}
+use Rattle.cg_liberty.proofs.FlopCells.{flop_is_cell, lone_below, made_flop}
+use Rattle.cg_liberty.proofs.FlopMade.{both_facts}
+use Rattle.cg_liberty.proofs.Uncontrolled.{none_controls}
 use Rattle.cg_liberty.proofs.GaterCells.{gater_is_cell}
 use Rattle.cg_liberty.proofs.LogicCells.{logic_is_cell}
 use Rattle.cg_liberty.proofs.PortFacts.{found_facts}
@@ -87,7 +93,18 @@ read_ok (Err fault) next y is = absurd (cc)
 
 -- a cell that is known by name alone
 unusable_proper : (name : List ℕ) → IsTrue (is_name name) → IsCell (unusable name)
-unusable_proper name named = record { named = named; pins_named = tt; few = lit≤ tt; distinct = refl; unsplit = tt; roles = refl; computes = tt }
+unusable_proper name named = record {
+  named = named;
+  pins_named = tt;
+  few = lit≤ tt;
+  distinct = refl;
+  unsplit = tt;
+  roles = refl;
+  computes = tt;
+  shared = tt;
+  controls = none_controls [] tt;
+  forces = refl;
+}
 
 cond_proper : (b : Bool) (x y : CellData) → (b ≡ true → IsCell x) → IsCell y → IsCell (cond b x y)
 cond_proper true x y first second = first refl
@@ -100,12 +117,32 @@ second_holds false b is = cc
 two_states : (a b : ℕ) (c : Bool) → (a == 2 && (b == 2 && c)) ≡ true → b ≡ 2
 two_states a b c is = grind (arith, nat_tests)
 
+-- what clear and preset ask for names no input but those that there are
+stated_within : (controls : Bool) (inputs : List (List ℕ)) (stated : Stated) (t : Term) → read_if controls inputs stated ≡ Ok (Some t) → IsTrue (is_within (length inputs) t)
+stated_within true inputs stated t is = reading_within inputs (text_of stated) t is
+stated_within false inputs stated t is = absurd (cc)
+
+there_within : (controls : Bool) (inputs : List (List ℕ)) (stated : Stated) (t : Term) (term : Option Term) → read_if controls inputs stated ≡ Ok (Some t) → ◌≡◌ {A = Option (Option Term)} (Some (Some t)) (Some term)
+    → IsTrue (option_map_or (is_within (length inputs)) term true)
+there_within controls inputs stated t term is there =
+    let same : Some t ≡ term = cc in
+    subst (λ (o : Option Term). IsTrue (option_map_or (is_within (length inputs)) o true)) same (stated_within controls inputs stated t is)
+
+asked_within : (controls : Bool) (inputs : List (List ℕ)) (stated : Stated) (read term : Option Term) → read_if controls inputs stated ≡ Ok read → asked stated read ≡ Some term
+    → IsTrue (option_map_or (is_within (length inputs)) term true)
+asked_within controls inputs Missing read None is there = refl
+asked_within controls inputs Missing read (Some t) is there = absurd (cc)
+asked_within controls inputs Bare None term is there = absurd (cc)
+asked_within controls inputs Bare (Some t) term is there = there_within controls inputs Bare t term is there
+asked_within controls inputs (Text text) None term is there = absurd (cc)
+asked_within controls inputs (Text text) (Some t) term is there = there_within controls inputs (Text text) t term is there
+
 module _ (name : List ℕ) (named : IsTrue (is_name name)) (ports : List Port) (are : ArePorts ports) where
   -- gating cells
   gater_case : (tested : Bool) (found : Option (List PinData)) → found ≡ gater_pins tested ports → IsCell (gater_with name tested found)
   gater_case tested None is = unusable_proper name named
   gater_case tested (Some pins) is =
-      cond_proper (are_gater_pins tested pins) (record { name = name; kind = kinds.Gater; pins = pins; function = None }) (unusable name) (λ fits. gater_is_cell tested name ports pins named are is fits) (unusable_proper name named)
+      cond_proper (are_gater_pins tested pins) (record { name = name; kind = kinds.Gater; pins = pins; function = None; control = no_control }) (unusable name) (λ fits. gater_is_cell tested name ports pins named are is fits) (unusable_proper name named)
 
   gater_proper : (tested : Bool) → IsCell (gater_of name tested ports)
   gater_proper tested = gater_case tested (gater_pins tested ports) refl
@@ -132,29 +169,66 @@ module _ (name : List ℕ) (named : IsTrue (is_name name)) (ports : List Port) (
   logic_case (Some function ∷ other ∷ functions) is = unusable_proper name named
 
   -- registers
-  clocked_case : (next clocked : Term) (inverses : List Bool) (clock : Option ℕ) → clock ≡ lone_input clocked → IsTrue (is_within (length (input_names ports)) clocked) → IsTrue (is_within (length (input_names ports) + 2) next)
-      → IsCell (flop_clocked name ports next clock inverses)
-  clocked_case next clocked inverses None is inside within = unusable_proper name named
-  clocked_case next clocked inverses (Some clock) is inside within =
-      let pins = flop_pins clock 0 inverses ports in
-      cond_proper (not (has_input clock next) && are_flop_pins pins) (record { name = name; kind = kinds.Flop; pins = pins; function = Some (restated (length (input_names ports)) clock next) }) (unusable name)
-      (λ fits. flop_is_cell name ports next clock inverses named are (second_holds (not (has_input clock next)) (are_flop_pins pins) fits) (lone_below (length (input_names ports)) clocked clock is inside) within)
-      (unusable_proper name named)
+  module _ (flop : FlopGroup) (inverse_named : Bool) (next : Term) (clock : ℕ) (clear preset : Option Term) (inverses : List Bool) (inside : clock < length (input_names ports))
+      (within : IsTrue (is_within (length (input_names ports) + 2) next)) (clears : IsTrue (option_map_or (is_within (length (input_names ports))) clear true))
+      (presets : IsTrue (option_map_or (is_within (length (input_names ports))) preset true)) where
+    abbrev n : ℕ
+    n = length (input_names ports)
 
-  flop_case : (flop : FlopGroup) (next clocked : Option Term) (known : Option (List Bool)) → reading (input_names ports ++ state_names flop.names) (text_of flop.next_state) ≡ Ok next
-      → reading (input_names ports) (text_of flop.clocked_on) ≡ Ok clocked → IsCell (flop_of name ports (is_plain_flop (input_names ports) flop) next clocked known)
-  flop_case flop None clocked known first second = unusable_proper name named
-  flop_case flop (Some next) None known first second = unusable_proper name named
-  flop_case flop (Some next) (Some clocked) None first second = unusable_proper name named
-  flop_case flop (Some next) (Some clocked) (Some inverses) first second =
+    abbrev with_both : Bool → ControlData
+    with_both both = record { clear = clear; preset = preset; both = both }
+
+    abbrev pins_with : Bool → List PinData
+    pins_with both = flop_pins (flop_role clock (with_both both) next) 0 inverses ports
+
+    with_control : (both : Bool) → IsTrue (asks_well n clock clear && asks_well n clock preset) → IsTrue (not both || (is_some clear && is_some preset)) → IsCell (flop_with_parts name ports next clock (with_both both) inverses)
+    with_control both asked bits =
+        cond_proper (not (has_input clock next) && are_flop_pins (pins_with both)) (made_flop name ports next n clock (with_both both) inverses) (unusable name)
+        (λ fits. flop_is_cell name ports next n clock (with_both both) inverses named are refl (second_holds (not (has_input clock next)) (are_flop_pins (pins_with both)) fits) within clears presets asked bits)
+        (unusable_proper name named)
+
+    control_case : (both : Option Bool) → both ≡ both_over n clock inverse_named flop clear preset → IsCell (flop_controlled name ports next clock (option_map with_both both) inverses)
+    control_case None is = unusable_proper name named
+    control_case (Some both) is = let facts = both_facts n clock inverse_named flop clear preset both is in with_control both facts.0 facts.1
+
+    controlled : IsCell (flop_controlled name ports next clock (control_over n clock inverse_named flop clear preset) inverses)
+    controlled = control_case (both_over n clock inverse_named flop clear preset) refl
+
+  clocked_case : (flop : FlopGroup) (inverse_named : Bool) (next clocked : Term) (clear preset : Option Term) (inverses : List Bool) (clock : Option ℕ) → clock ≡ lone_input clocked
+      → IsTrue (is_within (length (input_names ports)) clocked) → IsTrue (is_within (length (input_names ports) + 2) next) → IsTrue (option_map_or (is_within (length (input_names ports))) clear true)
+      → IsTrue (option_map_or (is_within (length (input_names ports))) preset true) → IsCell (flop_clocked name ports flop inverse_named next clock clear preset inverses)
+  clocked_case flop inverse_named next clocked clear preset inverses None is inside within clears presets = unusable_proper name named
+  clocked_case flop inverse_named next clocked clear preset inverses (Some clock) is inside within clears presets =
+      controlled flop inverse_named next clock clear preset inverses (lone_below (length (input_names ports)) clocked clock is inside) within clears presets
+
+  terms_case : (flop : FlopGroup) (outputs : List (Option Term)) (next clocked : Option Term) (clear preset : Option (Option Term)) (known : Option (List Bool))
+      → ((t : Term) → next ≡ Some t → IsTrue (is_within (length (input_names ports) + 2) t)) → ((t : Term) → clocked ≡ Some t → IsTrue (is_within (length (input_names ports)) t))
+      → ((t : Option Term) → clear ≡ Some t → IsTrue (option_map_or (is_within (length (input_names ports))) t true)) → ((t : Option Term) → preset ≡ Some t → IsTrue (option_map_or (is_within (length (input_names ports))) t true))
+      → IsCell (flop_of_terms name ports flop outputs next clocked clear preset known)
+  terms_case flop outputs (Some next) (Some clocked) (Some clear) (Some preset) (Some inverses) first second third fourth =
+      clocked_case flop (names_inverse (length (input_names ports)) next outputs) next clocked clear preset inverses (lone_input clocked) refl (second clocked refl) (first next refl) (third clear refl) (fourth preset refl)
+  terms_case flop outputs None clocked clear preset known first second third fourth = unusable_proper name named
+  terms_case flop outputs (Some next) None clear preset known first second third fourth = unusable_proper name named
+  terms_case flop outputs (Some next) (Some clocked) None preset known first second third fourth = unusable_proper name named
+  terms_case flop outputs (Some next) (Some clocked) (Some clear) None known first second third fourth = unusable_proper name named
+  terms_case flop outputs (Some next) (Some clocked) (Some clear) (Some preset) None first second third fourth = unusable_proper name named
+
+  flop_case : (controls : Bool) (flop : FlopGroup) (read : FlopTerms) → reading (input_names ports ++ state_names flop.names) (text_of flop.next_state) ≡ Ok read.next
+      → reading (input_names ports) (text_of flop.clocked_on) ≡ Ok read.clocked → read_if controls (input_names ports) flop.clear ≡ Ok read.clear → read_if controls (input_names ports) flop.preset ≡ Ok read.preset
+      → IsCell (flop_of controls name ports flop read)
+  flop_case controls flop read first second third fourth =
       let inputs = input_names ports in
       let states_of = state_names flop.names in
-      cond_proper (is_plain_flop inputs flop) (flop_clocked name ports next (lone_input clocked) inverses) (unusable name)
+      let known = all_known (inverses_of (length states_of) read.outputs) in
+      cond_proper (is_plain_flop controls inputs flop) (flop_of_terms name ports flop read.outputs read.next read.clocked (asked flop.clear read.clear) (asked flop.preset read.preset) known) (unusable name)
       (λ plain.
-      let two : length states_of ≡ 2 = two_states (length flop.names) (length states_of) (are_distinct (inputs ++ states_of) && not (is_there flop.clear || (is_there flop.preset || is_there flop.clocked_on_also))) plain in
+      let two : length states_of ≡ 2 = two_states (length flop.names) (length states_of) (are_distinct (inputs ++ states_of) && not (has_other_sets controls flop)) plain in
       let long : length (inputs ++ states_of) ≡ length inputs + 2 = length-append inputs states_of ∙ ap (λ n. length inputs + n) two in
-      let W : ℕ → Type 0 = λ n. IsTrue (is_within n next) in
-      clocked_case next clocked inverses (lone_input clocked) refl (reading_within inputs (text_of flop.clocked_on) clocked second) (subst W long (reading_within (inputs ++ states_of) (text_of flop.next_state) next first)))
+      terms_case flop read.outputs read.next read.clocked (asked flop.clear read.clear) (asked flop.preset read.preset) known
+      (λ t is. subst (λ (n : ℕ). IsTrue (is_within n t)) long (reading_within (inputs ++ states_of) (text_of flop.next_state) t (first ∙ ap Ok is)))
+      (λ t is. reading_within inputs (text_of flop.clocked_on) t (second ∙ ap Ok is))
+      (λ t is. asked_within controls inputs flop.clear read.clear t third is)
+      (λ t is. asked_within controls inputs flop.preset read.preset t fourth is))
       (unusable_proper name named)
 
 -- all kinds
@@ -165,19 +239,31 @@ cond_cell : (b : Bool) (r s : Result CellData CellFault) (cell : CellData) → (
 cond_cell true r s cell first second is = first is
 cond_cell false r s cell first second is = second is
 
-module _ (group : CellGroup) (named : IsTrue (is_name group.name)) (cell : CellData) where
-  flops_case : (ports : List Port) → ArePorts ports → (flops : Flops) → cell_by_flops group ports flops ≡ Ok cell → IsCell cell
+ok_same : {A : Type 0} (x y : A) → ◌≡◌ {A = Result A CellFault} (Ok x) (Ok y) → x ≡ y
+ok_same x y is = cc
+
+module _ (controls : Bool) (group : CellGroup) (named : IsTrue (is_name group.name)) (cell : CellData) where
+  flops_case : (ports : List Port) → ArePorts ports → (flops : Flops) → cell_by_flops controls group ports flops ≡ Ok cell → IsCell cell
   flops_case ports are Absent is =
       let r = read_ok (readings (input_names ports) (output_texts ports)) (λ functions. Ok (logic_of group.name ports functions)) cell is in
       same_cell (logic_of group.name ports r.0) cell r.2 (logic_case group.name named ports are r.0 r.1)
   flops_case ports are (One flop) is =
       let inputs = input_names ports in
-      let last = λ (next clocked : Option Term) (outputs : List (Option Bool)). flop_of group.name ports (is_plain_flop inputs flop) next clocked (all_known outputs) in
-      let found : Result (List (Option Bool)) CellFault = inverses_read (state_names flop.names) (output_texts ports) in
-      let r = read_ok (reading (inputs ++ state_names flop.names) (text_of flop.next_state)) (λ next. then_read (reading inputs (text_of flop.clocked_on)) (λ clocked. then_read found (λ outputs. Ok (last next clocked outputs)))) cell is in
-      let s = read_ok (reading inputs (text_of flop.clocked_on)) (λ clocked. then_read found (λ outputs. Ok (last r.0 clocked outputs))) cell r.2 in
-      let t = read_ok found (λ outputs. Ok (last r.0 s.0 outputs)) cell s.2 in
-      same_cell (last r.0 s.0 t.0) cell t.2 (flop_case group.name named ports are flop r.0 s.0 (all_known t.0) r.1 s.1)
+      let states_of = state_names flop.names in
+      let outputs = output_texts ports in
+      let made : FlopTerms → Result CellData CellFault = λ read. Ok (flop_of controls group.name ports flop read) in
+      let of_terms : Option Term → Option Term → Option Term → Option Term → List (Option Term) → FlopTerms = λ next clocked clear preset functions. record { next = next; clocked = clocked; clear = clear; preset = preset; outputs = functions } in
+      let whole = read_ok (flop_read controls inputs outputs flop) made cell is in
+      let r = read_ok (reading (inputs ++ states_of) (text_of flop.next_state)) (λ next. then_read (reading inputs (text_of flop.clocked_on)) (λ clocked. then_read (read_if controls inputs flop.clear) (λ clear.
+          then_read (read_if controls inputs flop.preset) (λ preset. then_read (readings states_of outputs) (λ functions. Ok (of_terms next clocked clear preset functions)))))) whole.0 whole.1 in
+      let s = read_ok (reading inputs (text_of flop.clocked_on)) (λ clocked. then_read (read_if controls inputs flop.clear) (λ clear. then_read (read_if controls inputs flop.preset) (λ preset.
+          then_read (readings states_of outputs) (λ functions. Ok (of_terms r.0 clocked clear preset functions))))) whole.0 r.2 in
+      let t = read_ok (read_if controls inputs flop.clear) (λ clear. then_read (read_if controls inputs flop.preset) (λ preset. then_read (readings states_of outputs) (λ functions. Ok (of_terms r.0 s.0 clear preset functions)))) whole.0 s.2 in
+      let p = read_ok (read_if controls inputs flop.preset) (λ preset. then_read (readings states_of outputs) (λ functions. Ok (of_terms r.0 s.0 t.0 preset functions))) whole.0 t.2 in
+      let q = read_ok (readings states_of outputs) (λ functions. Ok (of_terms r.0 s.0 t.0 p.0 functions)) whole.0 p.2 in
+      let same : of_terms r.0 s.0 t.0 p.0 q.0 ≡ whole.0 = ok_same (of_terms r.0 s.0 t.0 p.0 q.0) whole.0 q.2 in
+      same_cell (flop_of controls group.name ports flop whole.0) cell whole.2
+      (subst (λ (read : FlopTerms). IsCell (flop_of controls group.name ports flop read)) same (flop_case group.name named ports are controls flop (of_terms r.0 s.0 t.0 p.0 q.0) r.1 s.1 t.1 p.1))
   flops_case ports are Several is = same_cell (unusable group.name) cell is (unusable_proper group.name named)
 
   gating_proper : (ports : List Port) → ArePorts ports → IsCell (gating_cell group ports)
@@ -185,26 +271,26 @@ module _ (group : CellGroup) (named : IsTrue (is_name group.name)) (cell : CellD
       cond_proper (states group.gating (codes "latch_posedge")) (gater_of group.name false ports) (cond (states group.gating (codes "latch_posedge_precontrol")) (gater_of group.name true ports) (unusable group.name)) (λ says. gater_proper group.name named ports are false)
       (cond_proper (states group.gating (codes "latch_posedge_precontrol")) (gater_of group.name true ports) (unusable group.name) (λ says. gater_proper group.name named ports are true) (unusable_proper group.name named))
 
-  ports_case : (found : Option (List Port)) → IfSome found ArePorts → cell_with_ports group found ≡ Ok cell → IsCell cell
+  ports_case : (found : Option (List Port)) → IfSome found ArePorts → cell_with_ports controls group found ≡ Ok cell → IsCell cell
   ports_case None are is = same_cell (unusable group.name) cell is (unusable_proper group.name named)
   ports_case (Some ports) are is =
-      cond_cell (is_there group.gating) (Ok (gating_cell group ports)) (cond group.has_bank (Ok (unusable group.name)) (cell_by_flops group ports group.flops)) cell
+      cond_cell (is_there group.gating) (Ok (gating_cell group ports)) (cond group.has_bank (Ok (unusable group.name)) (cell_by_flops controls group ports group.flops)) cell
       (λ gating. same_cell (gating_cell group ports) cell gating (gating_proper ports are))
-      (cond_cell group.has_bank (Ok (unusable group.name)) (cell_by_flops group ports group.flops) cell (λ bank. same_cell (unusable group.name) cell bank (unusable_proper group.name named)) (flops_case ports are group.flops)) is
+      (cond_cell group.has_bank (Ok (unusable group.name)) (cell_by_flops controls group ports group.flops) cell (λ bank. same_cell (unusable group.name) cell bank (unusable_proper group.name named)) (flops_case ports are group.flops)) is
 
-  cell_proper : cell_of group ≡ Ok cell → IsCell cell
+  cell_proper : cell_of controls group ≡ Ok cell → IsCell cell
   cell_proper is = ports_case (ports_of group) (found_facts group (ports_of group) refl) is
 
-group_case : (group : CellGroup) (rest : List CellGroup) (cells : List CellData) (named : Bool) → is_name group.name ≡ named → Describe (cond named (group ∷ rest) rest) cells
-    → ((cells : List CellData) → Describe rest cells → AllByRecursion IsCell cells) → AllByRecursion IsCell cells
-group_case group rest [] true is described others = absurd described
-group_case group rest (cell ∷ cells) true is described others = (cell_proper group is cell described.0, others cells described.1)
-group_case group rest cells false is described others = others cells described
+group_case : (controls : Bool) (group : CellGroup) (rest : List CellGroup) (cells : List CellData) (named : Bool) → is_name group.name ≡ named → Describe controls (cond named (group ∷ rest) rest) cells
+    → ((cells : List CellData) → Describe controls rest cells → AllByRecursion IsCell cells) → AllByRecursion IsCell cells
+group_case controls group rest [] true is described others = absurd described
+group_case controls group rest (cell ∷ cells) true is described others = (cell_proper controls group is cell described.0, others cells described.1)
+group_case controls group rest cells false is described others = others cells described
 
-groups_proper : (groups : List CellGroup) (cells : List CellData) → Describe (named_groups groups) cells → AllByRecursion IsCell cells
-groups_proper [] [] described = tt
-groups_proper [] (cell ∷ cells) described = absurd described
-groups_proper (group ∷ groups) cells described = group_case group (named_groups groups) cells (is_name group.name) refl described (groups_proper groups)
+groups_proper : (controls : Bool) (groups : List CellGroup) (cells : List CellData) → Describe controls (named_groups groups) cells → AllByRecursion IsCell cells
+groups_proper controls [] [] described = tt
+groups_proper controls [] (cell ∷ cells) described = absurd described
+groups_proper controls (group ∷ groups) cells described = group_case controls group (named_groups groups) cells (is_name group.name) refl described (groups_proper controls groups)
 
-pub library_proper : (text : List ℕ) (library : List CellData) → LibText text library → AllByRecursion IsCell library
-library_proper text library says = groups_proper (cell_groups says.read) library says.described
+pub library_proper : (controls : Bool) (text : List ℕ) (library : List CellData) → LibText controls text library → AllByRecursion IsCell library
+library_proper controls text library says = groups_proper controls (cell_groups says.read) library says.described

@@ -10,6 +10,7 @@ use Rattle.cg_stimulus.specs.StimText.{SaysRow}
 use Rattle.cg_stimulus.proofs.StimExact.{read_is_text}
 use Rattle.cg_text.specs.declared.lines.Line.{Line}
 use Rattle.cg_vcd.specs.VcdText.{clock_name, vcd_rows}
+use Rattle.cg_random.specs.Held.{held_inputs}
 use Rattle.cg_random.specs.RandomRows.{random_found}
 use Rattle.cg_random.proofs.RowLaws.{random_is, random_stimulus}
 use Rattle.cg_source.specs.Stimulus.{DrivesNetlist, dump_trouble, random_trouble, rows_found, stimulus_found, stimulus_trouble}
@@ -21,7 +22,7 @@ use Rattle.cg_source.proofs.Taken.{refused_ok}
 says_rows : (form : StimulusForm) (c : Circuit) (text : List ℕ) (rows : List (List Bool)) → rows_found form c text ≡ Ok rows → DrivesNetlist form text c rows
 says_rows forms.Rows c text rows is = read_is_text (input_names c) text rows (refused_ok stimulus_trouble (stimulus (input_names c) text) rows is)
 says_rows forms.Dump c text rows is = refused_ok dump_trouble (vcd_rows (input_names c) (clock_name c) text) rows is
-says_rows (forms.Random count) c text rows is = random_is count (length (input_names c)) rows (refused_ok random_trouble (random_found count (length (input_names c))) rows is)
+says_rows (forms.Random count) c text rows is = random_is (held_inputs c) count (length (input_names c)) rows (refused_ok random_trouble (random_found (held_inputs c) count (length (input_names c))) rows is)
 
 module _ (form : StimulusForm) (c : Circuit) (text : List ℕ) (found : Rows) (is : stimulus_found form c text ≡ Ok found) where
   parts : (rows : List (List Bool)) × (rows_found form c text ≡ Ok rows) × (record { inputs = input_names c; rows = rows } ≡ found)
@@ -48,4 +49,4 @@ rows_wide inputs names (line ∷ lines) (row ∷ rows) say = (AllZip-long _ inpu
 pub drives_rows : (form : StimulusForm) (c : Circuit) (text : List ℕ) (rows : List (List Bool)) → DrivesNetlist form text c rows → IsStimulus (record { inputs = input_names c; rows = rows })
 drives_rows forms.Rows c text rows t = record { wide = rows_wide (input_names c) t.names t.later rows t.say; few = t.few }
 drives_rows forms.Dump c text rows t = dump_rows c text rows t
-drives_rows (forms.Random count) c text rows t = random_stimulus (input_names c) count rows t.0 t.1
+drives_rows (forms.Random count) c text rows t = random_stimulus (held_inputs c) (input_names c) count rows t.0 t.1

@@ -16,15 +16,16 @@ use Rattle.cg_lrat.proofs.LratExact.{read_is_text as log_is_text}
 use Rattle.cg_source.specs.Formula.{formula_found, formula_trouble}
 use Rattle.cg_source.specs.Library.{library_found, library_trouble}
 use Rattle.cg_source.specs.Log.{log_found, log_trouble}
+use Rattle.cg_source.specs.declared.accept.Accept.{Accept}
 use Rattle.cg_source.proofs.ProperCells.{library_proper}
 use Rattle.cg_source.proofs.Taken.{refused_ok}
 
-pub library_says : (text : List ℕ) (library : List CellData) → library_found text ≡ Ok library → LibText text library
-library_says text library is = text_of_library text library (refused_ok library_trouble (library_of text) library is)
+pub library_says : (accept : Accept) (text : List ℕ) (library : List CellData) → library_found accept text ≡ Ok library → LibText accept.controls text library
+library_says accept text library is = text_of_library accept.controls text library (refused_ok library_trouble (library_of accept.controls text) library is)
 
 -- the cells of a library that is found are cells
-pub library_cells : (text : List ℕ) (library : List CellData) → library_found text ≡ Ok library → AllByRecursion IsCell library
-library_cells text library is = library_proper text library (library_says text library is)
+pub library_cells : (accept : Accept) (text : List ℕ) (library : List CellData) → library_found accept text ≡ Ok library → AllByRecursion IsCell library
+library_cells accept text library is = library_proper accept.controls text library (library_says accept text library is)
 
 pub formula_says : (text : List ℕ) (formula : Formula) → formula_found text ≡ Ok formula → DimacsText text formula
 formula_says text formula is = formula_is_text text formula (refused_ok formula_trouble (dimacs text) formula is)

@@ -62,7 +62,7 @@ netlist_taken state c = found_as (λ stimulus. record state { netlist = Some c; 
 -- loaded.
 abbrev pub design_takes : {D : Type 0} → (List CellData → D → Circuit → Result Circuit Trouble) → DesignFiles D → Role → List ℕ →
     Result (DesignFiles D) Trouble
-design_takes permits state roles.Library text = found_as (λ library. record state { library = library }) (library_found text)
+design_takes permits state roles.Library text = found_as (λ library. record state { library = library }) (library_found state.accept text)
 design_takes permits state roles.Netlist text =
     then_found (permitted permits state.form state.library (state.options).clock state.demand text) (netlist_taken state)
 design_takes permits state roles.Stimulus text =
@@ -75,6 +75,7 @@ abbrev pub design_start : {D : Type 0} → D → NetlistOptions → Option Stimu
 design_start demand options asked =
     record {
       demand = demand;
+      accept = options.accept;
       form = options.form;
       options = record { clock = options.clock };
       asked = asked;

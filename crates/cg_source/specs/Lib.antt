@@ -1,4 +1,5 @@
 pub mod Refused
+pub mod Accept
 pub mod Library
 pub mod NetFault
 pub mod Blif

@@ -41,5 +41,5 @@ IsNamedClock clock = AllByRecursion (λ net. IsTrue (is_name net)) (option_to_li
 
 -- With a library that was found, and read so, each text that is refused is refused for its first fault.
 abbrev pub RefusesForFirstFaults : NetlistOptions → Type 0
-RefusesForFirstFaults options = (cells text : List ℕ) (library : List CellData) (trouble : Trouble) → library_found cells ≡ Ok library
+RefusesForFirstFaults options = (cells text : List ℕ) (library : List CellData) (trouble : Trouble) → library_found options.accept cells ≡ Ok library
     → netlist_found options.form library options.clock text ≡ Err trouble → IsRefusedFor options.form text library options.clock trouble

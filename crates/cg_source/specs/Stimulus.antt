@@ -5,6 +5,7 @@ use Rattle.cg_limit.specs.declared.TheConstants.{MOST_ROWS}
 use Rattle.cg_netlist.specs.Circuit.{Circuit}
 use Rattle.cg_netlist.specs.declared.fault.AddFault.{AddFault}
 use Rattle.cg_netlist.specs.declared.fault.AddFault.TheVariants as add_faults
+use Rattle.cg_random.specs.Held.{held_inputs}
 use Rattle.cg_random.specs.RandomRows.{random_found, random_rows}
 use Rattle.cg_run.specs.Verdict.{found_as}
 use Rattle.cg_run.specs.declared.refusal.Owner.TheVariants as owners
@@ -24,7 +25,7 @@ use Rattle.cg_source.specs.declared.stimulus.StimulusForm.TheVariants as forms
 
 -- rows are so many by chance
 abbrev pub AreRandom : ℕ → Circuit → List (List Bool) → Type 0
-AreRandom count c rows = (count ≤ MOST_ROWS) × (rows ≡ random_rows count (length (input_names c)))
+AreRandom count c rows = (count ≤ MOST_ROWS) × (rows ≡ random_rows (held_inputs c) count (length (input_names c)))
 
 -- the text, where the form has one, drives the data inputs of a netlist with these rows
 abbrev pub DrivesNetlist : StimulusForm → List ℕ → Circuit → List (List Bool) → Type 0
@@ -71,7 +72,7 @@ random_trouble add_faults.NoMemory = troubles.NoMemory
 abbrev pub rows_found : StimulusForm → Circuit → List ℕ → Result (List (List Bool)) Trouble
 rows_found forms.Rows c text = refused_as stimulus_trouble (stimulus (input_names c) text)
 rows_found forms.Dump c text = refused_as dump_trouble (vcd_rows (input_names c) (clock_name c) text)
-rows_found (forms.Random count) c text = refused_as random_trouble (random_found count (length (input_names c)))
+rows_found (forms.Random count) c text = refused_as random_trouble (random_found (held_inputs c) count (length (input_names c)))
 
 abbrev pub stimulus_found : StimulusForm → Circuit → List ℕ → Result Rows Trouble
 stimulus_found form c text = found_as (λ rows. record { inputs = input_names c; rows = rows }) (rows_found form c text)

@@ -6,6 +6,7 @@ ghost use Rattle.cg_run.specs.Roles.{are_distinct};
 ghost use Rattle.cg_run.specs.Verdict.{Answers};
 ghost use Rattle.cg_source.specs.Design.{chance_found, design_loads, hints_said, permitted, stimulus_said};
 
+use crate::accept::Accept;
 use crate::hints::take_hints;
 use crate::library::take_library;
 use crate::netlist::{NetlistForm, NetlistOptions, take_netlist};
@@ -58,6 +59,8 @@ impl Demand for AnyNetlist {
 #[derive(Drop)]
 pub struct DesignFiles<D> {
     pub demand: D,
+    /// What is accepted of the library.
+    pub accept: Accept,
     /// The form of the netlist's text.
     pub form: NetlistForm,
     pub options: BlifOptions,
@@ -97,9 +100,10 @@ impl<D: Demand> DesignFiles<D> {
     ) -> DesignFiles<D>
         ensures { result ≡ design_start demand options asked }
     {
-        let NetlistOptions { form, clock } = options;
+        let NetlistOptions { accept, form, clock } = options;
         DesignFiles {
             demand,
+            accept,
             form,
             options: BlifOptions { clock },
             asked,
@@ -137,7 +141,7 @@ impl<D: Demand> DesignFiles<D> {
         ensures { Answers (design_takes D.permits self Role.Library text.now) result }
     {
         let mut next = self;
-        match take_library(alloc, text) {
+        match take_library(alloc, next.accept, text) {
             Ok(library) => {
                 // By a call, here and below, as its parts would else be dropped one by one in the proof.
                 drop(replace(&mut next.library, library));

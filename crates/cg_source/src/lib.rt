@@ -4,6 +4,7 @@
 //! refused for them, as its complaint says it. A role may have several formats: which one a file has is chosen in the module of
 //! its role, and nothing above knows of it.
 //!
+//! - `accept`: what a run accepts beyond what every run does;
 //! - `refused`: contents that are refused for a place or a name;
 //! - `library`: the cells that a netlist may place;
 //! - `netlist`: a circuit, with the cells of a library, in either of its forms, BLIF and structural Verilog;
@@ -13,6 +14,7 @@
 //! - `formula` and `log`: a formula, and a proof log for it.
 #![tactic(auto)]
 
+pub mod accept;
 pub mod design;
 pub mod formula;
 pub mod hints;

@@ -6,6 +6,7 @@ ghost use Rattle.cg_cell.specs.Cell.{IsCell};
 ghost use Rattle.cg_run.specs.Verdict.{Answers};
 ghost use Rattle.cg_source.specs.Library.{library_found, library_trouble};
 
+use crate::accept::Accept;
 use crate::refused::{at_place, with_name};
 use cg_cell::library::Library;
 use cg_cell::name::Name;
@@ -16,12 +17,12 @@ use cg_run::{Content, Owner, Trouble};
 use cg_text::number::push_number;
 use std::alloc::{AllocError, Global};
 
-/// The library that a text says. Its cells are cells.
-pub fn take_library(alloc: Global, text: &Seq<u8>) -> Result<Library, Trouble>
-    ensures answers { Answers (library_found text.now) result }
+/// The library that a text says, by what is accepted. Its cells are cells.
+pub fn take_library(alloc: Global, accept: Accept, text: &Seq<u8>) -> Result<Library, Trouble>
+    ensures answers { Answers (library_found accept text.now) result }
     ensures cells { IfOk result (λ library. AllByRecursion IsCell library) }
 {
-    match read_library(alloc, text.as_slice()) {
+    match read_library(alloc, text.as_slice(), accept.controls) {
         Ok(library) => Ok(library),
         Err(fault) => Err(library_trouble(alloc, fault)?),
     }

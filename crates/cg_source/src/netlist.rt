@@ -14,6 +14,7 @@ ghost use Rattle.cg_source.specs.Blif.{IsBlifFaultOf, blif_found, blif_said, bli
 ghost use Rattle.cg_source.specs.Verilog.{IsVerilogFaultOf, verilog_found, verilog_said, verilog_trouble};
 ghost use Rattle.cg_source.specs.NetFault.{net_trouble};
 
+use crate::accept::Accept;
 use crate::refused::{at_place, plainly, with_name};
 use cg_blif::{BlifFault, BlifOptions, read_blif};
 use cg_cell::library::Library;
@@ -34,9 +35,12 @@ pub enum NetlistForm {
     Verilog,
 }
 
-/// How a netlist is read.
+/// How a netlist is read, with the cells of its library.
 #[derive(Debug, Drop)]
 pub struct NetlistOptions {
+    /// What is accepted of the library.
+    pub accept: Accept,
+
     /// The form of its text.
     pub form: NetlistForm,
 

@@ -17,9 +17,9 @@ use std::alloc::{AllocError, Global};
 
 /// The stages that a round of stability tries on a machine, where these stages were tried before.
 ///
-/// A register is a candidate where it stands on no data input, on another register, and each register other than itself
-/// that it stands on has an enable; it is left out where it stood in an earlier stage of stability that was inserted, or
-/// that had the same enables and own enable. Registers with the same enables below them and the same own enable form one
+/// A register without controls is a candidate where it stands on no data input, on another register, and each register other
+/// than itself that it stands on has an enable and no controls; it is left out where it stood in an earlier stage of stability
+/// that was inserted, or that had the same enables and own enable. Registers with the same enables below them and the same own enable form one
 /// stage, and the stages stand in the order of their first register.
 pub fn candidates(
     alloc: Global,

@@ -4,8 +4,8 @@ ghost use Rattle.std.specs.Prelude.{◌≡◌, ◌<◌, ◌||◌, if◌then◌el
 ghost use Rattle.std.specs.List.{filter_map, list_all, list_any};
 ghost use Rattle.std.specs.Option.{option_map};
 ghost use Rattle.cg_stage_groups.specs.Keys.{key_seen};
+ghost use Rattle.cg_stage_list_laws.specs.Controlled.{has_lasting};
 ghost use Rattle.cg_stage_list_laws.specs.StableList.{stable_key};
-ghost use Rattle.cg_stage_list_laws.specs.Supports.{has_enable};
 ghost use Rattle.cg_machine.specs.Machine.{enable_of};
 ghost use Rattle.cg_stability.specs.inner.Keyed.{AreKeys, AreRegisters, is_keyed};
 ghost use Rattle.cg_stage_groups.specs.Support.{IsSupport};
@@ -33,7 +33,7 @@ pub(crate) fn keys_of(alloc: Global, machine: &Machine) -> Result<Vec<Option<Key
 }
 
 /// The key of a register: the enables of the registers that it stands on, in net order, and its own enable. It has none
-/// where it stands on a data input, on no other register, or on one without an enable.
+/// where it has controls, where it stands on a data input, on no other register, or on one that has controls or no enable.
 fn key_of(
     alloc: Global,
     machine: &Machine,
@@ -44,6 +44,9 @@ fn key_of(
     ensures { IfOk result (λ key. option_map key_seen key ≡ stable_key machine.now reg) }
 {
     let _netlist = machine.netlist();
+    if machine.has_controls(reg) {
+        return Ok(None);
+    }
     let free = finder.shows_free(machine, reg)?;
     if free {
         return Ok(None);
@@ -88,13 +91,13 @@ fn has_other(reg: RegId, registers: &[RegId]) -> bool
     false
 }
 
-/// Whether each other register of these has an enable.
+/// Whether each other register of these has an enable and no controls.
 fn are_enabled(machine: &Machine, reg: RegId, registers: &[RegId]) -> bool
     requires { AreRegisters machine.now registers.now }
-    ensures { result ≡ list_all (λ k. nat_eq k reg || has_enable machine.now k) registers.now }
+    ensures { result ≡ list_all (λ k. nat_eq k reg || has_lasting machine.now k) registers.now }
 {
     for other in registers {
-        if other.number() != reg.number() && machine.enable(*other).is_none() {
+        if other.number() != reg.number() && machine.lasting_enable(*other).is_none() {
             return false;
         }
     }

@@ -17,6 +17,7 @@ use Rattle.cg_machine.proofs.Grown.{enable_set}
 use Rattle.cg_stage_laws.specs.Joined.{enabled}
 use Rattle.cg_stage_laws.specs.Laws.{After}
 use Rattle.cg_stage_laws.specs.Stages.{Fits, has_inverted}
+use Rattle.cg_stage_laws.proofs.Unforced.{controls_kept}
 
 -- starts
 pub starts_long : (n : MachineData) → n.own_registers ≤ length n.circuit.registers → (start : List Bool) → length start ≡ n.own_registers → IsState n (start ++ ones n)
@@ -52,14 +53,15 @@ module _ (a : Added) (good : IsMachine a.machine) (net : IsNet a.machine a.net) 
   pub enabled_good : IsMachine (enabled a G)
   enabled_good = given_machine a.machine a.net G good net regs
 
-pub after_of : (m : MachineData) (s : Stage) (a : Added) (own : Option ℕ) → Extends m a.machine → Gives a.machine s.regs own a.net (give a.machine.enables s.regs a.net) → IsMachine (enabled a s.regs) → Same m (enabled a s.regs) → After m s (enabled a s.regs)
-after_of m s a own e given good same = record {
+pub after_of : (m : MachineData) (s : Stage) (a : Added) (own : Option ℕ) → IsMachine m → IsMachine a.machine → Extends m a.machine → Gives a.machine s.regs own a.net (give a.machine.enables s.regs a.net) → IsMachine (enabled a s.regs) → Same m (enabled a s.regs) → After m s (enabled a s.regs)
+after_of m s a own good_m good_a e given good same = record {
   is_machine = good;
   same = same;
   clock = e.clock;
   names = e.names;
   count = e.count;
   enables = λ r below out. given.others r out ∙ e.enables r below;
+  controls = controls_kept m a.machine good_m good_a e (give a.machine.enables s.regs a.net);
 }
 
 -- a machine that has all that m has

@@ -53,7 +53,7 @@ module _ (m : MachineData) (s : Stage) (good : IsMachine m) (fits : Fits m s) wh
       safe a k is joins =
           let had : (r : ℕ) → is_in s.regs r ≡ true → enable_of a.machine r ≡ None = λ r among. (had_old m s good fits) a.machine k.extends r among ∙ no_own in
           let regs = (regs_old m s good fits) a.machine k.extends in (
-            after_of m s a None k.extends (given a k.good is s.regs None regs had) (enabled_good a k.good is s.regs None regs had) (
+            after_of m s a None good k.good k.extends (given a k.good is s.regs None regs had) (enabled_good a k.good is s.regs None regs had) (
                 same_then m a.machine (enabled a s.regs) (extends_same m a.machine good k.extends good.own_registers)
                 (hold_same a.machine s.regs a.net (first_literal s.enable) (give a.machine.enables s.regs a.net) (given a k.good is s.regs None regs had) (starts_long a.machine k.good.own_registers) joins
                 (λ r among. hold_kept m a.machine good k.extends (first_literal s.enable) r net.below ((below_old m s good fits) r among) (claims r among)))

@@ -7,10 +7,10 @@ use Rattle.cg_machine.specs.declared.stage.Stage.{Stage}
 use Rattle.cg_machine.specs.declared.stage.StageKind.{StageKind}
 use Rattle.cg_machine.specs.declared.stage.StageKind.TheVariants.{Hold, Stable, Unseen}
 use Rattle.cg_stage_laws.specs.Effects.{effect, limit_by}
-use Rattle.cg_stage_laws.specs.Stages.{ClaimsHold, Fits}
+use Rattle.cg_stage_laws.specs.Stages.{ClaimsHold, Fits, FitsControls}
 
 -- n is m after a stage with these registers: it is a machine that shows the same, all nets and registers of m are in it,
--- and the other registers have the enables that they have in m
+-- the other registers have the enables that they have in m, and what clear and preset allow in m they allow in n
 pub record After (m : MachineData) (s : Stage) (n : MachineData) : Type 0 where
   pub is_machine : IsMachine n
   pub same : Same m n
@@ -18,6 +18,7 @@ pub record After (m : MachineData) (s : Stage) (n : MachineData) : Type 0 where
   pub names : length m.circuit.names ≤ length n.circuit.names
   pub count : length m.circuit.registers ≤ length n.circuit.registers
   pub enables : (r : ℕ) → r < length m.circuit.registers → is_in s.regs r ≡ false → enable_of n r ≡ enable_of m r
+  pub controls : (t : Stage) → Fits m t → FitsControls t.kind n t
 
 -- a stage of this kind that fits, of which the claims hold and which passes no limit, may be inserted
 abbrev pub IsSafe : StageKind → Type 0

@@ -1,9 +1,12 @@
 -- Stages of a machine: when one fits, and what it claims.
-use Rattle.std.specs.Prelude.{◌≡◌, ◌<◌, ℕ, nat_eq, Bool, true, false, List, [], ◌∷◌, map, length, None}
+use Rattle.std.specs.Prelude.{◌≡◌, ◌<◌, ℕ, nat_eq, Bool, true, false, List, [], ◌∷◌, map, length, slice_get, None, Some, ◌⊎◌}
 use Rattle.std.specs.List.{IsDistinct, list_any}
 use Rattle.cg_net.specs.NetSets.{is_in}
-use Rattle.cg_machine.specs.Claims.{Joined, Literal, Next, Shown, Target, Hold as Holds, Stable as IsStable, Unseen as IsUnseen}
-use Rattle.cg_machine.specs.Machine.{IsNet, MachineData, enable_of}
+use Rattle.cg_netlist.specs.Circuit.{RegisterCell}
+use Rattle.cg_netlist.specs.History.{next_value}
+use Rattle.cg_netlist.specs.Moment.{bit, has_preset, values_at}
+use Rattle.cg_machine.specs.Claims.{EqualOutside, Joined, Literal, Next, Shown, Target, any_at, Hold as Holds, Stable as IsStable, Unseen as IsUnseen}
+use Rattle.cg_machine.specs.Machine.{IsInputs, IsNet, IsState, MachineData, enable_of, has_controls, values}
 use Rattle.cg_machine.specs.declared.stage.Stage.{Stage}
 use Rattle.cg_machine.specs.declared.stage.StageKind.{StageKind}
 use Rattle.cg_machine.specs.declared.stage.StageKind.TheVariants.{Hold, Stable, Unseen}
@@ -28,6 +31,29 @@ FitsKind Hold s = (length s.enable ≡ 1) × (s.own ≡ None) × (s.guards ≡ [
 FitsKind Stable s = (has_inverted s.enable ≡ false) × (s.guards ≡ [])
 FitsKind Unseen s = (has_inverted s.enable ≡ false) × (s.own ≡ None)
 
+-- the register takes 0 at the end of the cycle and has it until the next one: its function is 0 and it has no preset. Whether an enable
+-- loads it is no matter here, because an earlier stage of the same round may give it one.
+pub record TakesZero (m : MachineData) (s x : List Bool) (r : ℕ) : Type 0 where
+  pub none : (cell : RegisterCell ℕ ℕ) → slice_get m.circuit.registers r ≡ Some cell → has_preset cell.kind ≡ false
+  pub takes : (cell : RegisterCell ℕ ℕ) → slice_get m.circuit.registers r ≡ Some cell →
+      next_value cell.kind (values_at (values m s x) cell.inputs) (bit s r) ≡ false
+
+-- the control nets have the same bits whatever bits the registers of G have
+abbrev pub ControlsIgnore : MachineData → List ℕ → Type 0
+ControlsIgnore m G =
+    (k : ℕ) (cell : RegisterCell ℕ ℕ) → slice_get m.circuit.registers k ≡ Some cell → (s t x : List Bool) → IsState m s → IsInputs m x →
+    EqualOutside G s t → values_at (values m t x) cell.controls ≡ values_at (values m s x) cell.controls
+
+-- Clear and preset at the registers of a stage. A hold stage may have any. Nothing forces the registers of a stability stage. No control
+-- depends on those of an unobservability stage, and a guard of it that has controls is cleared in the cycles in which the stage idles.
+abbrev pub FitsControls : StageKind → MachineData → Stage → Type 0
+FitsControls Hold m s = Unit {0}
+FitsControls Stable m s = (r : ℕ) → is_in s.regs r ≡ true → has_controls m r ≡ false
+FitsControls Unseen m s =
+    ControlsIgnore m s.regs
+    × ((q : ℕ) → is_in s.guards q ≡ true → (has_controls m q ≡ false)
+    ⊎ ((t x : List Bool) → IsState m t → IsInputs m x → any_at (values m t x) s.enable ≡ false → TakesZero m t x q))
+
 -- a stage fits a machine
 pub record Fits (m : MachineData) (s : Stage) : Type 0 where
   -- its registers are registers of the netlist, each once, and at least one
@@ -43,6 +69,7 @@ pub record Fits (m : MachineData) (s : Stage) : Type 0 where
   pub guards : (q : ℕ) → is_in s.guards q ≡ true → q < length m.circuit.registers
   pub apart : (q : ℕ) → is_in s.guards q ≡ true → is_in s.regs q ≡ false
   pub kind : FitsKind s.kind s
+  pub controls : FitsControls s.kind m s
 
 -- what can be told of a machine in a cycle: its outputs, the next bits of its registers, the joined enable
 abbrev pub IsTarget : MachineData → Target → Type 0

@@ -174,6 +174,7 @@ module _ (m : MachineData) (good : IsMachine m) where
           guards = λ r among. absurd (both_ways false refl among);
           apart = λ r among. absurd (both_ways false refl among);
           kind = (refl, refl, refl);
+          controls = tt;
         })
 
     hold_apart : (l k : Literal) (s t : Stage) → l ≢ k → F l ≡ Some s → F k ≡ Some t → (r : ℕ) → is_in t.regs r ≡ true → is_in s.regs r ≡ false

@@ -6,3 +6,4 @@ pub mod HoldFits
 pub mod Ranked
 pub mod StableFits
 pub mod UnseenFits
+pub mod TakenNets

@@ -1,16 +1,17 @@
 -- The list of a round of stability fits.
-use Rattle.std.proofs.Common.{◌≡◌, ◌≢◌, ℕ, ◌<◌, true, false, not, ◌&&◌, List, length, nat_eq, bytes_eq, option_map, option_and_then}
+use Rattle.std.proofs.Common.{◌≡◌, ◌≢◌, ℕ, ◌<◌, Bool, if◌then◌else◌, is_some, true, false, not, ◌&&◌, List, length, nat_eq, bytes_eq, option_map, option_and_then}
 use Rattle.std.proofs.Common.{Option, None, Some, refl, sym, ◌∙◌, ap, subst, arith}
 use Rattle.std.specs.List.{IsDistinct, filter_map, list_all}
 use Rattle.std.proofs.lemmas.Bool.{and_parts, both_ways, eqb-true, not-true}
 use Rattle.std.proofs.lemmas.Slice.Eq.{bytes_eq-Decides}
 use Rattle.cg_net.specs.NetSets.{is_in}
-use Rattle.cg_machine.specs.Machine.{IsMachine, IsNet, MachineData, enable_of}
+use Rattle.cg_machine.specs.Machine.{IsMachine, IsNet, MachineData, enable_of, has_controls}
 use Rattle.cg_machine.specs.declared.stage.Earlier.{Earlier}
 use Rattle.cg_machine.specs.declared.stage.Stage.{Stage}
 use Rattle.cg_machine.specs.declared.stage.StageKind.TheVariants.{Stable}
 use Rattle.cg_stage_laws.specs.Stages.{Fits}
 use Rattle.cg_stage_list_laws.specs.Fit.{AllFit}
+use Rattle.cg_stage_list_laws.specs.Controlled.{has_lasting}
 use Rattle.cg_stage_list_laws.specs.Groups.{Group, group_of, has_key}
 use Rattle.cg_stage_list_laws.specs.Rounds.{is_empty, kept_key, same_option}
 use Rattle.cg_stage_list_laws.specs.StableList.{StableKey, had_stable, same_stable, stable_key, stable_list, stable_stage}
@@ -24,6 +25,14 @@ use Rattle.cg_netlist.proofs.Filtered.{in_filter}
 use Rattle.cg_netlist.proofs.Rising.{in_made}
 use Rattle.cg_netlist.proofs.WalkOrder.{in_driving}
 use Rattle.cg_net.proofs.TableLemmas.{mapped_at}
+
+-- what has a lasting enable has an enable
+pub lasting_has : (m : MachineData) (r : ℕ) → has_lasting m r ≡ true → has_enable m r ≡ true
+lasting_has m r = go (has_controls m r)
+  where
+    go : (b : Bool) → is_some (if b then None else enable_of m r) ≡ true → has_enable m r ≡ true
+    go true h = absurd (both_ways false refl h)
+    go false h = h
 
 module _ (m : MachineData) (good : IsMachine m) where
   option_is : (a b : Option ℕ) → same_option a b ≡ true → a ≡ b
@@ -41,17 +50,19 @@ module _ (m : MachineData) (good : IsMachine m) where
       keys xs ys o p e f = cc
 
   record StableAt (q : ℕ) (k : StableKey) : Type 0 where
+    forced : has_controls m q ≡ false
     some : is_empty (others_of m q) ≡ false
-    each : list_all (has_enable m) (others_of m q) ≡ true
+    each : list_all (has_lasting m) (others_of m q) ≡ true
     enables : in_net_order m (filter_map (enable_of m) (others_of m q)) ≡ k.enables
     own : enable_of m q ≡ k.own
 
   stable_at : (q : ℕ) (k : StableKey) → stable_key m q ≡ Some k → StableAt q k
   stable_at q k is =
-      let w = when_true (not (has_input m q) && not (is_empty (others_of m q)) && list_all (has_enable m) (others_of m q)) (record { enables = in_net_order m (filter_map (enable_of m) (others_of m q)); own = enable_of m q }) k is in
-      let p = and_parts (not (has_input m q) && not (is_empty (others_of m q))) (list_all (has_enable m) (others_of m q)) w.0 in
-      let i = and_parts (not (has_input m q)) (not (is_empty (others_of m q))) p.0 in
-      record { some = not-true (is_empty (others_of m q)) i.1; each = p.1; enables = ap (λ (j : StableKey). j.enables) w.1; own = ap (λ (j : StableKey). j.own) w.1 }
+      let w = when_true (not (has_controls m q) && not (has_input m q) && not (is_empty (others_of m q)) && list_all (has_lasting m) (others_of m q)) (record { enables = in_net_order m (filter_map (enable_of m) (others_of m q)); own = enable_of m q }) k is in
+      let p = and_parts (not (has_controls m q) && not (has_input m q) && not (is_empty (others_of m q))) (list_all (has_lasting m) (others_of m q)) w.0 in
+      let i = and_parts (not (has_controls m q) && not (has_input m q)) (not (is_empty (others_of m q))) p.0 in
+      let f = and_parts (not (has_controls m q)) (not (has_input m q)) i.0 in
+      record { forced = not-true (has_controls m q) f.0; some = not-true (is_empty (others_of m q)) i.1; each = p.1; enables = ap (λ (j : StableKey). j.enables) w.1; own = ap (λ (j : StableKey). j.own) w.1 }
 
   module _ (earlier : List Earlier) where
     abbrev skey : ℕ → Option StableKey
@@ -83,7 +94,7 @@ module _ (m : MachineData) (good : IsMachine m) where
         let k = in_made (enable_of m) (others_of m r) y p.1 in
         good.enabled k.0 y k.2 in
         let first = nonempty_member (others_of m r) own.some in
-        let e = is_some_of (enable_of m first.0) (all_member (has_enable m) (others_of m r) first.0 own.each first.1) in
+        let e = is_some_of (enable_of m first.0) (lasting_has m first.0 (all_member (has_lasting m) (others_of m r) first.0 own.each first.1)) in
         let there : is_in g.key.enables e.0 ≡ true = ap (λ l. is_in l e.0) (sym own.enables) ∙ (ordered_some m) (filter_map (enable_of m) (others_of m r)) e.0 (in_driving (enable_of m) (others_of m r) first.0 e.0 first.1 e.1) (good.enabled first.0 e.0 e.1).below in
         let many : 0 < length g.key.enables = some_length g.key.enables e.0 there in
         subst (Fits m) at.is (record {
@@ -96,6 +107,7 @@ module _ (m : MachineData) (good : IsMachine m) where
           guards = λ q among. absurd (both_ways false refl among);
           apart = λ q among. absurd (both_ways false refl among);
           kind = (plain_plain g.key.enables, refl);
+          controls = λ q among. (facts q among).forced;
         })
 
     stable_apart : (a b : ℕ) (s t : Stage) → a ≢ b → SF a ≡ Some s → SF b ≡ Some t → (r : ℕ) → is_in t.regs r ≡ true → is_in s.regs r ≡ false

@@ -1,6 +1,6 @@
 -- The list of a round of unobservability fits.
 use Rattle.std.proofs.Common.{◌≡◌, ◌≢◌, ℕ, ◌<◌, Bool, true, false, not, ◌&&◌, List, [], ◌∷◌, length, slice_get, nat_eq, bytes_eq}
-use Rattle.std.proofs.Common.{is_some, option_and_then, Option, None, Some, refl, sym, ◌∙◌, ap, subst, arith}
+use Rattle.std.proofs.Common.{is_some, option_and_then, Option, None, Some, refl, sym, ◌∙◌, ap, subst, inr, arith}
 use Rattle.std.specs.List.{IsDistinct, filter_map}
 use Rattle.std.proofs.lemmas.Bool.{and_parts, both_ways, eq-eqb, false_from_ne_true, not-true}
 use Rattle.std.proofs.lemmas.Option.{none-some, same_Some}
@@ -9,13 +9,14 @@ use Rattle.cg_cell.specs.Term.{lone_input}
 use Rattle.cg_net.specs.NetSets.{is_in}
 use Rattle.cg_netlist.specs.Circuit.{used_nets}
 use Rattle.cg_net.proofs.Members.{member_at}
-use Rattle.cg_machine.specs.Machine.{IsMachine, MachineData, enable_of}
+use Rattle.cg_machine.specs.Machine.{IsMachine, MachineData, enable_of, values}
 use Rattle.cg_machine.specs.declared.stage.Earlier.{Earlier}
 use Rattle.cg_machine.specs.declared.stage.Stage.{Stage}
 use Rattle.cg_machine.specs.declared.stage.StageKind.TheVariants.{Unseen}
 use Rattle.cg_claim.specs.Reach.{register_term}
 use Rattle.cg_stage_laws.specs.Stages.{Fits}
 use Rattle.cg_stage_list_laws.specs.Fit.{AllFit}
+use Rattle.cg_stage_list_laws.specs.Controlled.{feeds_controls, has_preset_at}
 use Rattle.cg_stage_list_laws.specs.Groups.{Group, group_of, has_key}
 use Rattle.cg_stage_list_laws.specs.HoldList.{unless_empty}
 use Rattle.cg_stage_list_laws.specs.Rounds.{is_empty, kept_key}
@@ -24,6 +25,7 @@ use Rattle.cg_stage_list_laws.specs.UnseenList.{enables_some, fan_out, guards_ke
 use Rattle.cg_stage_list_laws.specs.UnseenList.{unseen_groups, unseen_key, unseen_list, unseen_stage, without_guards}
 use Rattle.cg_stage_list_laws.proofs.FitLists.{BeginsGroup, all_fit, begins_group, group_has, groups_apart}
 use Rattle.cg_stage_list_laws.proofs.FitLists.{maps_maps, member_key, range_differs}
+use Rattle.cg_stage_list_laws.proofs.TakenNets.{clears, idle_net, ignored}
 use Rattle.cg_stage_list_laws.proofs.UsedNets.{register_used, used_net}
 use Rattle.cg_stage_list_laws.proofs.Mapped.{is_some_of, kept, length_plain, none_option, nonempty_member}
 use Rattle.cg_stage_list_laws.proofs.Mapped.{ordered_some, plain_nets, plain_plain, some_length, then_option, when_true}
@@ -42,14 +44,16 @@ module _ (m : MachineData) (good : IsMachine m) where
 
     record UnseenAt (q : ℕ) (k : List ℕ) : Type 0 where
       free : enable_of m q ≡ None
+      apart : feeds_controls m q ≡ false
       some : is_empty k ≡ false
       guards : guards_of m q ≡ k
 
     unseen_at : (q : ℕ) (k : List ℕ) → unseen_key m q ≡ Some k → UnseenAt q k
     unseen_at q k is =
-        let w = when_true (not (has_enable m q) && not (is_empty (guards_of m q))) (guards_of m q) k is in
-        let p = and_parts (not (has_enable m q)) (not (is_empty (guards_of m q))) w.0 in
-        record { free = none_option (enable_of m q) (not-true (has_enable m q) p.0); some = ap is_empty (sym w.1) ∙ not-true (is_empty (guards_of m q)) p.1; guards = w.1 }
+        let w = when_true (not (has_enable m q) && not (feeds_controls m q) && not (is_empty (guards_of m q))) (guards_of m q) k is in
+        let p = and_parts (not (has_enable m q) && not (feeds_controls m q)) (not (is_empty (guards_of m q))) w.0 in
+        let f = and_parts (not (has_enable m q)) (not (feeds_controls m q)) p.0 in
+        record { free = none_option (enable_of m q) (not-true (has_enable m q) f.0); apart = not-true (feeds_controls m q) f.1; some = ap is_empty (sym w.1) ∙ not-true (is_empty (guards_of m q)) p.1; guards = w.1 }
 
     module _ (test : Bool) where
       abbrev all : List (Group (List ℕ))
@@ -104,11 +108,11 @@ module _ (m : MachineData) (good : IsMachine m) where
           let own : UnseenAt r g.key = facts r has in
           let guard_of : (z : ℕ) → UnseenAt z g.key → (q : ℕ) → is_in g.key q ≡ true → (is_in (own_registers_of m) q ≡ true) × (is_guard m z (fan_out m z) q ≡ true) = λ z (u : UnseenAt z g.key) q among.
           in_filter (is_guard m z (fan_out m z)) (own_registers_of m) q (ap (λ l. is_in l q) u.guards ∙ among) in
-          let guard_parts : (q : ℕ) → is_in g.key q ≡ true → is_some (taken_at m q) ≡ true = λ q among.
-          let p = and_parts (not (nat_eq q r) && not (has_enable m q) && is_some (taken_at m q)) (enables_some m (fan_out m r) q) (guard_of r own q among).1 in
-          (and_parts (not (nat_eq q r) && not (has_enable m q)) (is_some (taken_at m q)) p.0).1 in
+          let guard_parts : (q : ℕ) → is_in g.key q ≡ true → (not (nat_eq q r) && not (has_enable m q) && not (has_preset_at m q) ≡ true) × (is_some (taken_at m q) ≡ true) = λ q among.
+          let p = and_parts (not (nat_eq q r) && not (has_enable m q) && not (has_preset_at m q) && is_some (taken_at m q)) (enables_some m (fan_out m r) q) (guard_of r own q among).1 in
+          and_parts (not (nat_eq q r) && not (has_enable m q) && not (has_preset_at m q)) (is_some (taken_at m q)) p.0 in
           let first = nonempty_member g.key own.some in
-          let y = is_some_of (taken_at m first.0) (guard_parts first.0 first.1) in
+          let y = is_some_of (taken_at m first.0) (guard_parts first.0 first.1).1 in
           let nets : List ℕ = in_net_order m (filter_map (taken_at m) g.key) in
           let there : is_in nets y.0 ≡ true = (ordered_some m) (filter_map (taken_at m) g.key) y.0 (in_driving (taken_at m) g.key first.0 y.0 first.1 y.1) ((used_net m good) y.0 (taken_used first.0 y.0 y.1)).below in
           let many : 0 < length nets = some_length nets y.0 there in
@@ -125,11 +129,20 @@ module _ (m : MachineData) (good : IsMachine m) where
             guards = λ q among. let b = in_range m.own_registers 0 q (guard_of r own q among).0 in omega (arith, b.1, good.own_registers);
             apart = λ q among. false_from_ne_true (is_in at.regs q) (λ inside.
                 let w = (guard_of q (facts q (at.within q inside)) q among).1 in
-                let p = and_parts (not (nat_eq q q) && not (has_enable m q) && is_some (taken_at m q)) (enables_some m (fan_out m q) q) w in
-                let i = and_parts (not (nat_eq q q) && not (has_enable m q)) (is_some (taken_at m q)) p.0 in
-                let j = and_parts (not (nat_eq q q)) (not (has_enable m q)) i.0 in
+                let p = and_parts (not (nat_eq q q) && not (has_enable m q) && not (has_preset_at m q) && is_some (taken_at m q)) (enables_some m (fan_out m q) q) w in
+                let i = and_parts (not (nat_eq q q) && not (has_enable m q) && not (has_preset_at m q)) (is_some (taken_at m q)) p.0 in
+                let h = and_parts (not (nat_eq q q) && not (has_enable m q)) (not (has_preset_at m q)) i.0 in
+                let j = and_parts (not (nat_eq q q)) (not (has_enable m q)) h.0 in
                 both_ways (nat_eq q q) (not-true (nat_eq q q) j.0) (eq-eqb q q refl));
             kind = (plain_plain nets, refl);
+            controls = (
+              ignored m good at.regs (λ q among. (facts q (at.within q among)).apart),
+              λ q among. inr (λ t x long ins idle.
+              let taken = is_some_of (taken_at m q) (guard_parts q among).1 in
+              let z : is_in nets taken.0 ≡ true = (ordered_some m) (filter_map (taken_at m) g.key) taken.0 (in_driving (taken_at m) g.key q taken.0 among taken.1) ((used_net m good) taken.0 (taken_used q taken.0 taken.1)).below in
+              clears m good t x long ins q taken.0 taken.1 (not-true (has_preset_at m q) (and_parts (not (nat_eq q r) && not (has_enable m q)) (not (has_preset_at m q)) (guard_parts q among).0).1)
+              (idle_net (values m t x) nets taken.0 z idle)),
+            );
           })
 
       unseen_apart : (a b : ℕ) (s t : Stage) → a ≢ b → UF a ≡ Some s → UF b ≡ Some t → (r : ℕ) → is_in t.regs r ≡ true → is_in s.regs r ≡ false

@@ -8,3 +8,4 @@ pub mod StableList
 pub mod UnseenList
 pub mod Fit
 pub mod Laws
+pub mod Controlled

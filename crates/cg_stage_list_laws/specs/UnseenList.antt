@@ -11,6 +11,7 @@ use Rattle.cg_machine.specs.declared.stage.Earlier.{Earlier}
 use Rattle.cg_machine.specs.declared.stage.Stage.{Stage}
 use Rattle.cg_machine.specs.declared.stage.StageKind.TheVariants.{Unseen}
 use Rattle.cg_claim.specs.Reach.{register_term}
+use Rattle.cg_stage_list_laws.specs.Controlled.{feeds_controls, has_preset_at}
 use Rattle.cg_stage_list_laws.specs.Groups.{Group, groups}
 use Rattle.cg_stage_list_laws.specs.HoldList.{unless_empty}
 use Rattle.cg_stage_list_laws.specs.Rounds.{is_empty, kept_key, plain_literals, same_kind, same_option}
@@ -37,16 +38,19 @@ enables_some m regs q =
     list_any (λ y. list_any (λ k. same_option (enable_of m k) (Some y)) regs)
     (option_map_or plain_outputs (slice_get m.circuit.registers q) [])
 
--- whether q guards g, of which this is the fan-out
+-- whether q guards g, of which this is the fan-out: no preset forces it after it took a 0
 abbrev pub is_guard : MachineData → ℕ → List ℕ → ℕ → Bool
-is_guard m g fan q = not (nat_eq q g) && not (has_enable m q) && is_some (taken_at m q) && enables_some m fan q
+is_guard m g fan q =
+    not (nat_eq q g) && not (has_enable m q) && not (has_preset_at m q) && is_some (taken_at m q) && enables_some m fan q
 
 abbrev pub guards_of : MachineData → ℕ → List ℕ
 guards_of m g = let fan = fan_out m g in filter (is_guard m g fan) (own_registers_of m)
 
--- the key of a register: its guards, where it has some and no enable
+-- the key of a register: its guards, where it has some and no enable, and no control depends on it
 abbrev pub unseen_key : MachineData → ℕ → Option (List ℕ)
-unseen_key m g = let guards = guards_of m g in if not (has_enable m g) && not (is_empty guards) then Some guards else None
+unseen_key m g =
+    let guards = guards_of m g in
+    if not (has_enable m g) && not (feeds_controls m g) && not (is_empty guards) then Some guards else None
 
 -- whether a stage had these guards
 abbrev pub had_unseen : List ℕ → Stage → Bool

@@ -1,11 +1,12 @@
 -- What a finished run of `demo` means.
-use Rattle.std.proofs.Common.{◌≡◌, ℕ, IsTrue, List, [], None, Some, Result, Ok, Err, refl, sym, ◌∙◌, ap, subst}
+use Rattle.std.proofs.Common.{false, ◌≡◌, ℕ, IsTrue, List, [], None, Some, Result, Ok, Err, refl, sym, ◌∙◌, ap, subst}
 use Rattle.std.specs.Prelude.{IsOkAnd}
 use Rattle.cg_cell.specs.Cell.{CellData}
 use Rattle.cg_cell.specs.Name.{is_name}
 use Rattle.cg_demo.specs.Pipeline.{generated, library as library_text, stimulus as stimulus_text}
 use Rattle.cg_gate.specs.Request.{MayGate}
 use Rattle.cg_liberty.specs.LibText.{LibText}
+use Rattle.cg_source.specs.Accept.{accepts_nothing}
 use Rattle.cg_netlist.specs.Circuit.{Circuit}
 use Rattle.cg_shelf.specs.World.{World}
 use Rattle.cg_run.specs.Verdict.{Answers, found_as}
@@ -44,23 +45,23 @@ answers_as make r troubles.NoMemory refused = tt
 
 -- the parts of a pipeline that was found
 pub record AreFound (size : ℕ) (p : Pipeline) : Type 0 where
-  pub cells : library_found cells_text ≡ Ok p.library
+  pub cells : library_found accepts_nothing cells_text ≡ Ok p.library
   pub netlist : permitted gateable Blif p.library None demo_wanted (lines_text size) ≡ Ok p.netlist
   pub drives : stimulus_found forms.Rows p.netlist (rows_text size) ≡ Ok p.stimulus
 
 pub are_found : (size : ℕ) (p : Pipeline) → pipeline_found size ≡ Ok p → AreFound size p
 are_found size p is =
-    let one = then_ok (library_found cells_text)
+    let one = then_ok (library_found accepts_nothing cells_text)
     (λ library. then_found (permitted gateable Blif library None demo_wanted (lines_text size)) (λ c. found_as (λ (s : Rows). record { library = library; netlist = c; stimulus = s }) (stimulus_found forms.Rows c (rows_text size)))) p is in
     let two = then_ok (permitted gateable Blif one.0 None demo_wanted (lines_text size)) (λ c. found_as (λ (s : Rows). record { library = one.0; netlist = c; stimulus = s }) (stimulus_found forms.Rows c (rows_text size))) p one.2 in
     let three = found_ok (λ (s : Rows). record { library = one.0; netlist = two.0; stimulus = s }) (stimulus_found forms.Rows two.0 (rows_text size)) p two.2 in
-    let L : Pipeline → Type 0 = λ p. library_found cells_text ≡ Ok p.library in
+    let L : Pipeline → Type 0 = λ p. library_found accepts_nothing cells_text ≡ Ok p.library in
     let N : Pipeline → Type 0 = λ p. permitted gateable Blif p.library None demo_wanted (lines_text size) ≡ Ok p.netlist in
     let S : Pipeline → Type 0 = λ p. stimulus_found forms.Rows p.netlist (rows_text size) ≡ Ok p.stimulus in
     record { cells = subst L three.2 one.1; netlist = subst N three.2 two.1; drives = subst S three.2 three.1 }
 
 -- where the library and the netlist are found, the pipeline is refused for the stimulus
-pub rows_refused : (size : ℕ) (library : List CellData) (c : Circuit) (trouble : Trouble) → library_found cells_text ≡ Ok library → permitted gateable Blif library None demo_wanted (lines_text size) ≡ Ok c
+pub rows_refused : (size : ℕ) (library : List CellData) (c : Circuit) (trouble : Trouble) → library_found accepts_nothing cells_text ≡ Ok library → permitted gateable Blif library None demo_wanted (lines_text size) ≡ Ok c
     → Answers (stimulus_found forms.Rows c (rows_text size)) (Err trouble) → Answers (pipeline_found size) (Err trouble)
 rows_refused size library c trouble cells netlist refused =
     let next = λ (library : List CellData). then_found (permitted gateable Blif library None demo_wanted (lines_text size)) (λ c. found_as (λ (s : Rows). record { library = library; netlist = c; stimulus = s }) (stimulus_found forms.Rows c (rows_text size))) in
@@ -72,7 +73,7 @@ rows_refused size library c trouble cells netlist refused =
 
 -- it is read as BLIF, and may be gated
 abbrev blif_read : NetlistOptions
-blif_read = record { form = Blif; clock = None }
+blif_read = record { accept = accepts_nothing; form = Blif; clock = None }
 
 pub demo_may : (size : ℕ) (p : Pipeline) → IsTrue (is_name demo_wanted.prefix) → pipeline_found size ≡ Ok p → MayGate (request_by p.library demo_wanted (Some p.stimulus) None) p.netlist
 demo_may size p named is =
@@ -107,14 +108,14 @@ demo_means size names before after finish f =
     let pipeline : Pipeline = p.0 in
     let found = are_found size pipeline p.1 in
     let so = found_so pipeline.library blif_read demo_wanted (lines_text size) pipeline.netlist found.netlist in
-    let L : List ℕ → Type 0 = λ t. LibText t pipeline.library in
+    let L : List ℕ → Type 0 = λ t. LibText false t pipeline.library in
     let B : List ℕ → Type 0 = λ t. SaysNetlist Blif t pipeline.library None pipeline.netlist in
     let S : List ℕ → Type 0 = λ t. DrivesNetlist forms.Rows t pipeline.netlist (pipeline.stimulus).rows in
     record {
       library = pipeline.library;
       netlist = pipeline.netlist;
       stimulus = pipeline.stimulus;
-      cells = subst L same_cells (library_says cells_text pipeline.library found.cells);
+      cells = subst L same_cells (library_says accepts_nothing cells_text pipeline.library found.cells);
       says = subst B (same_lines size) (netlist_says Blif pipeline.library None (lines_text size) pipeline.netlist so.said);
       drives = subst S (same_rows size) (stimulus_drives forms.Rows pipeline.netlist (rows_text size) pipeline.stimulus found.drives);
       text = f.output.said;

@@ -32,6 +32,7 @@ use Rattle.cg_source.specs.Design.{any_netlist, design_loads, design_start, desi
 use Rattle.cg_source.specs.Formula.{formula_found}
 use Rattle.cg_source.specs.Hints.{hints_found}
 use Rattle.cg_source.specs.Library.{library_found}
+use Rattle.cg_source.specs.Accept.{accepts_nothing}
 use Rattle.cg_source.specs.Log.{log_found}
 use Rattle.cg_source.specs.Netlist.{netlist_found}
 use Rattle.cg_source.specs.Refused.{refused_for, then_found}
@@ -143,6 +144,7 @@ module _ {D : Type 0} (permits : List CellData → D → Circuit → Result Circ
   state library c stimulus hints =
       record {
         demand = demand;
+        accept = (asking.netlist).accept;
         form = (asking.netlist).form;
         options = record { clock = (asking.netlist).clock };
         asked = asking.stimulus;
@@ -180,10 +182,10 @@ module _ {D : Type 0} (permits : List CellData → D → Circuit → Result Circ
       → ((library : List CellData) (c : Circuit) → goes more (then_found (permits library demand c) (netlist_taken (state library None None None))) ≡ tail rest (Some library) (Some c))
       → on (state [] None None None) (roles.Library ∷ roles.Netlist ∷ more) ≡ first_of (map (refuses asking given) (Load roles.Library ∷ Library ∷ Load roles.Netlist ∷ Netlist ∷ rest))
   design_first more rest later =
-      load_first roles.Library (given roles.Library) (λ text. troubled (found_as (λ library. state library None None None) (library_found text)))
+      load_first roles.Library (given roles.Library) (λ text. troubled (found_as (λ library. state library None None None) (library_found (asking.netlist).accept text)))
       (λ next. reached (design_takes permits) stops next (roles.Netlist ∷ more) given)
-      (λ text. option_or (fault_in (library_found text)) (second rest (found_in (library_found text))))
-      (λ text. made_first (goes (roles.Netlist ∷ more)) (λ trouble. refl) (library_found text) (λ library. state library None None None) (second rest) (λ library. netlist_first more rest library (later library)))
+      (λ text. option_or (fault_in (library_found (asking.netlist).accept text)) (second rest (found_in (library_found (asking.netlist).accept text))))
+      (λ text. made_first (goes (roles.Netlist ∷ more)) (λ trouble. refl) (library_found (asking.netlist).accept text) (λ library. state library None None None) (second rest) (λ library. netlist_first more rest library (later library)))
 
 -- a design that is gated
 module _ (asking : Asking) (given : Given) (library : List CellData) (c : Circuit) where
@@ -327,7 +329,7 @@ module _ (options : Options) (size : ℕ) where
 
   demo_first : refusal_in (reached demo_takes demo_stops (record { size = size }) [] (generated_files size)) ≡ first_of (map (refuses demo_asks (generated_files size)) (trials (modes.Demo size) options))
   demo_first =
-      then_first stops (λ trouble. refl) (library_found cells_text)
+      then_first stops (λ trouble. refl) (library_found accepts_nothing cells_text)
       (λ library. then_found (then_found (netlist_found Blif library None (lines_text size)) (gateable library demo_wanted)) (λ c. found_as (λ stimulus. record { library = library; netlist = c; stimulus = stimulus }) (stimulus_found forms.Rows c (rows_text size))))
       (λ library. option_or (option_and_then (λ cells. fault_in (netlist_found Blif cells None (lines_text size))) library) (first_of (map (refuses_with demo_asks (generated_files size) library (option_and_then (λ cells. found_in (netlist_found Blif cells None (lines_text size))) library)) (Prefix ∷ TestInput ∷ GatingCells ∷ Stimulus ∷ Gating ∷ []))))
       (λ library. permitted_first stops (λ trouble. refl) (netlist_found Blif library None (lines_text size)) (gateable library demo_wanted)

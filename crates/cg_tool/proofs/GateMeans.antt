@@ -111,9 +111,9 @@ gated_of options kind names before after finish end f read gives =
       stimulus = end.stimulus;
       hints = end.hints;
       texts = gates.texts;
-      cells = some_and (before.held (names roles.Library)) files.library_text (λ text. LibText text end.library)
+      cells = some_and (before.held (names roles.Library)) files.library_text (λ text. LibText ((options.netlist).accept).controls text end.library)
           (held_so (before.held (names roles.Library)) (f.given roles.Library) files.library_text (f.told roles.Library) files.library_loaded)
-          (library_says files.library_text end.library files.library_is);
+          (library_says (options.netlist).accept files.library_text end.library files.library_is);
       says = some_and (before.held (names roles.Netlist)) files.text (λ text. SaysNetlist (options.netlist).form text end.library (options.netlist).clock c)
           (held_so (before.held (names roles.Netlist)) (f.given roles.Netlist) files.text (f.told roles.Netlist) files.loaded) says;
       drives = driven f.given options.asked.stimulus (before.held (names roles.Stimulus)) c end.stimulus read.stimulus (f.told roles.Stimulus);

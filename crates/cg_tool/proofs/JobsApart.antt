@@ -11,7 +11,9 @@ use Rattle.std.proofs.lemmas.Slice.Eq.{bytes_eq-Decides}
 use Rattle.cg_plan_laws.specs.declared.settings.Settings.{Settings}
 use Rattle.cg_run.specs.Names.{file_of}
 use Rattle.cg_run.proofs.RoleLaws.{and_parts}
+use Rattle.cg_source.specs.declared.accept.Accept.{Accept}
 use Rattle.cg_source.specs.declared.stimulus.StimulusForm.{StimulusForm}
+use Rattle.cg_command_line.specs.Accepting.{accept_in}
 use Rattle.cg_command_line.specs.CommandLine.{Values}
 use Rattle.cg_command_line.specs.Jobs.{JobWords, gate_files, job_of}
 use Rattle.cg_command_line.specs.Options.{are_different, asked_in, default_prefix, form_of, gate_options_with, is_apart, is_named, may_hint, may_watch}
@@ -84,16 +86,17 @@ files_apart library netlist out values stimulus different =
 abbrev StoresApart : JobWords → Type 0
 StoresApart job = job.mode ≡ Gate → AreApart (job.options).asked (file_of job.files)
 
-gate_apart : (library netlist out : List ℕ) (values : Values) → IsTrue (are_different (library ∷ netlist ∷ out ∷ option_files values)) → (settings : Option Settings) (watch : Option (Option ℕ)) (stimulus : Option (Option StimulusForm))
-    → IfSome (gate_options_with netlist values settings watch stimulus) (λ o. StoresApart (record { mode = Gate; files = gate_files library netlist out values; options = o }))
-gate_apart library netlist out values different (Some settings) (Some watch) (Some stimulus) =
+gate_apart : (library netlist out : List ℕ) (values : Values) → IsTrue (are_different (library ∷ netlist ∷ out ∷ option_files values)) → (settings : Option Settings) (watch : Option (Option ℕ)) (stimulus : Option (Option StimulusForm)) (accept : Option Accept)
+    → IfSome (gate_options_with netlist values settings watch stimulus accept) (λ o. StoresApart (record { mode = Gate; files = gate_files library netlist out values; options = o }))
+gate_apart library netlist out values different (Some settings) (Some watch) (Some stimulus) (Some accept) =
     if_taken (λ o. StoresApart (record { mode = Gate; files = gate_files library netlist out values; options = o }))
     (is_named values.clock && (is_named values.prefix && (is_named values.test && (is_apart (unwrap_or values.prefix default_prefix) values.test && (may_watch values stimulus && may_hint values)))))
-    (Some (record { netlist = record { form = form_of netlist; clock = values.clock }; prefix = unwrap_or values.prefix default_prefix; test = values.test; settings = settings; watch = watch; asked = asked_in values stimulus }))
+    (Some (record { netlist = record { accept = accept; form = form_of netlist; clock = values.clock }; prefix = unwrap_or values.prefix default_prefix; test = values.test; settings = settings; watch = watch; asked = asked_in values stimulus }))
     (λ taken same. files_apart library netlist out values stimulus different)
-gate_apart library netlist out values different (Some settings) (Some watch) None = tt
-gate_apart library netlist out values different (Some settings) None stimulus = tt
-gate_apart library netlist out values different None watch stimulus = tt
+gate_apart library netlist out values different (Some settings) (Some watch) (Some stimulus) None = tt
+gate_apart library netlist out values different (Some settings) (Some watch) None accept = tt
+gate_apart library netlist out values different (Some settings) None stimulus accept = tt
+gate_apart library netlist out values different None watch stimulus accept = tt
 
 each_some : {A : Type 0} (P : A → Type 0) (o : Option A) → ((x : A) → P x) → IfSome o P
 each_some P None each = tt
@@ -102,7 +105,7 @@ each_some P (Some x) each = each x
 pub job_apart : (watchers words : List (List ℕ)) → IfSome (job_of watchers words) (λ j. j.mode ≡ Gate → AreApart j.options.asked (file_of j.files))
 job_apart watchers words =
     each_job StoresApart watchers
-    (λ library netlist out values different. gate_apart library netlist out values different (settings_in values) (watch_in watchers values.watch) (stimulus_in values))
+    (λ library netlist out values different. gate_apart library netlist out values different (settings_in values) (watch_in watchers values.watch) (stimulus_in values) (accept_in values.accept))
     (λ form library netlist stimulus values. each_some _ (sim_options watchers netlist values) (λ o is. absurd (cc)))
     (λ formula log is. absurd (cc))
     (λ size is. absurd (cc))

@@ -11,3 +11,4 @@ pub mod SimMeans
 pub mod JobsApart
 pub mod Program
 pub mod Said
+pub mod Telling

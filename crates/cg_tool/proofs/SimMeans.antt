@@ -39,7 +39,7 @@ use Rattle.cg_tool.proofs.GateMeans.{driven_by}
 use Rattle.cg_tool.proofs.LratMeans.{some_and}
 
 simulated_of : (form : StimulusForm) (options : NetlistOptions) (kind : Option Kind) (names : Role → List ℕ) (before after : World) (finish : Finish) (library : List CellData) (c : Circuit) (rows : List (List Bool)) (output : Output)
-    → IsSomeAnd (before.held (names roles.Library)) (λ lib. LibText lib library) → IsSomeAnd (before.held (names roles.Netlist)) (λ t. SaysNetlist options.form t library options.clock c) → IsWellFormed c
+    → IsSomeAnd (before.held (names roles.Library)) (λ lib. LibText (options.accept).controls lib library) → IsSomeAnd (before.held (names roles.Netlist)) (λ t. SaysNetlist options.form t library options.clock c) → IsWellFormed c
     → IsDrivenBy form (before.held (names roles.Stimulus)) c rows → IsStimulus (record { inputs = input_names c; rows = rows })
     → PlaysAs kind c (record { inputs = input_names c; rows = rows }) output → output.finish ≡ finish → Written names output before after → IsSimulated form options kind names before after finish
 simulated_of form options kind names before after finish library c rows output cells says formed drives good plays ends written =
@@ -104,8 +104,8 @@ simulated_means form options kind names before after finish f =
     let drives = stimulus_drives form c text stimulus.rows stimulus.said in
     let P : Rows → Type 0 = λ s. PlaysAs kind c s f.output in
     simulated_of form options kind names before after finish library c rows f.output
-    (some_and (before.held (names roles.Library)) files.library_text (λ lib. LibText lib library) (held_so (before.held (names roles.Library)) (f.given roles.Library) files.library_text (f.told roles.Library) files.library_loaded)
-    (library_says files.library_text library files.library_is))
+    (some_and (before.held (names roles.Library)) files.library_text (λ lib. LibText (options.accept).controls lib library) (held_so (before.held (names roles.Library)) (f.given roles.Library) files.library_text (f.told roles.Library) files.library_loaded)
+    (library_says options.accept files.library_text library files.library_is))
     (some_and (before.held (names roles.Netlist)) files.text (λ t. SaysNetlist options.form t library options.clock c) (held_so (before.held (names roles.Netlist)) (f.given roles.Netlist) files.text (f.told roles.Netlist) files.loaded) says)
     (netlist_formed options.form library options.clock files.text c found)
     (driven_by form (before.held (names roles.Stimulus)) c text rows drives (λ has. held_so (before.held (names roles.Stimulus)) (f.given roles.Stimulus) text (f.told roles.Stimulus) (stimulus.loaded has)))

@@ -1,11 +1,12 @@
 -- What `demo` makes of a generated pipeline, and what that means.
-use Rattle.std.specs.Prelude.{◌≡◌, ℕ, List, [], ◌++◌, Option, None, Some, Result, Ok, Err, IsOkAnd}
+use Rattle.std.specs.Prelude.{false, ◌≡◌, ℕ, List, [], ◌++◌, Option, None, Some, Result, Ok, Err, IsOkAnd}
 use Rattle.std.specs.Option.{option_map}
 use Rattle.cg_cell.specs.Cell.{CellData}
 use Rattle.cg_demo.specs.Pipeline.{generated, library as library_text, stimulus as stimulus_text}
 use Rattle.cg_gate.specs.Gating.{GivesDemo}
 use Rattle.cg_gate.specs.Request.{RequestData, stops_at}
 use Rattle.cg_liberty.specs.LibText.{LibText}
+use Rattle.cg_source.specs.Accept.{accepts_nothing}
 use Rattle.cg_netlist.specs.Circuit.{Circuit}
 use Rattle.cg_run.specs.Verdict.{Task, found_as, task_of}
 use Rattle.cg_run.specs.declared.writing.Finish.{Finish}
@@ -47,7 +48,7 @@ rows_text size = stimulus_text size
 -- and a stimulus; were one refused, it would be refused as the file would be.
 abbrev pub pipeline_found : ℕ → Result Pipeline Trouble
 pipeline_found size =
-    then_found (library_found cells_text) (λ library.
+    then_found (library_found accepts_nothing cells_text) (λ library.
     then_found (permitted gateable Blif library None demo_wanted (lines_text size)) (λ c.
     found_as (λ stimulus. record { library = library; netlist = c; stimulus = stimulus }) (stimulus_found forms.Rows c (rows_text size))))
 
@@ -86,7 +87,7 @@ pub record IsDemo (size : ℕ) (before after : World) (finish : Finish) : Type 0
   pub library : List CellData
   pub netlist : Circuit
   pub stimulus : Rows
-  pub cells : LibText library_text library
+  pub cells : LibText false library_text library
   pub says : SaysNetlist Blif (generated size) library None netlist
   pub drives : DrivesNetlist forms.Rows (stimulus_text size) netlist stimulus.rows
   pub text : List ℕ

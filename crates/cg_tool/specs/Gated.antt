@@ -59,7 +59,8 @@ pub record Stand (names : Role → List ℕ) (texts : Texts) (after : World) : T
   pub verilog : IfSome texts.verilog (λ text. after.held (names roles.Verilog) ≡ Some text)
   pub registers : IfSome texts.registers (λ text. after.held (names roles.Registers) ≡ Some text)
 
--- A netlist was gated: the bytes under LIB are a text that stands for a library, and those under NETLIST, in the form that its name
+-- A netlist was gated: the bytes under LIB are a text that stands for a library, with clear and preset of registers where these are
+-- accepted, and those under NETLIST, in the form that its name
 -- ends with, say a well-formed netlist with this library and the clock of the words, of which no gating cell is refused and in which no
 -- net's name begins with the prefix. The stimulus, where one is asked for, drives its data inputs with rows, by the bytes under its name
 -- where it has a file. The hints, where they are asked for, are those that the bytes under their name say for the netlist. What is stored
@@ -71,7 +72,7 @@ pub record IsGated (options : Options) (kind : Option Kind) (names : Role → Li
   pub stimulus : Option Rows
   pub hints : Option (List Hint)
   pub texts : Texts
-  pub cells : IsSomeAnd (before.held (names roles.Library)) (λ text. LibText text library)
+  pub cells : IsSomeAnd (before.held (names roles.Library)) (λ text. LibText ((options.netlist).accept).controls text library)
   pub says : IsSomeAnd (before.held (names roles.Netlist)) (λ text. SaysNetlist (options.netlist).form text library (options.netlist).clock read)
   pub drives : IsDriven options.asked.stimulus (before.held (names roles.Stimulus)) read stimulus
   pub hinted : AreHinted options.asked.hints (before.held (names roles.Hints)) read hints

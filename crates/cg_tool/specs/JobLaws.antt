@@ -21,6 +21,7 @@ use Rattle.cg_run.specs.Names.{file_of}
 use Rattle.cg_source.specs.Formula.{formula_found}
 use Rattle.cg_source.specs.Hints.{hints_found}
 use Rattle.cg_source.specs.Library.{library_found}
+use Rattle.cg_source.specs.declared.accept.Accept.{Accept}
 use Rattle.cg_source.specs.Log.{log_found}
 use Rattle.cg_source.specs.Netlist.{RefusesForFirstFaults, SaysNetlist, netlist_found}
 use Rattle.cg_source.specs.Stimulus.{DrivesNetlist, stimulus_found}
@@ -44,7 +45,7 @@ pub record ReadsStimuli (form : StimulusForm) (c : Circuit) (text : List ℕ) (f
 
 -- What is read of a text is what the text says, on every shelf.
 pub record ReadsAsSaid : Type 0 where
-  pub library : (text : List ℕ) (library : List CellData) → library_found text ≡ Ok library → LibText text library
+  pub library : (accept : Accept) (text : List ℕ) (library : List CellData) → library_found accept text ≡ Ok library → LibText accept.controls text library
   pub netlist : (form : NetlistForm) (library : List CellData) (clock : Option NetName) (text : List ℕ) (c : Circuit)
       → netlist_found form library clock text ≡ Ok c → ReadsNetlists form library clock text c
   pub stimulus : (form : StimulusForm) (c : Circuit) (text : List ℕ) (found : Rows) → stimulus_found form c text ≡ Ok found

@@ -9,3 +9,4 @@ pub mod Demo
 pub mod Numbers
 pub mod JobLaws
 pub mod Program
+pub mod Telling

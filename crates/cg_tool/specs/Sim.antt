@@ -71,7 +71,8 @@ abbrev pub sim_task : StimulusForm → NetlistOptions → Option Kind → Task
 sim_task form options kind =
     task_of sim_takes sim_stops (sim_gives kind) (sim_start form options) (design_loads (has_file form) false)
 
--- A stimulus was played: the bytes under LIB are a text that stands for a library, those under NETLIST, in the form that its name ends
+-- A stimulus was played: the bytes under LIB are a text that stands for a library, with clear and preset of registers where these are
+-- accepted, those under NETLIST, in the form that its name ends
 -- with, say a well-formed netlist with this library and the clock of the words, and the stimulus of this form, whose text, where it has
 -- one, is under the stimulus's name, drives its data inputs with these rows. There is one history on which these rows are played, and
 -- what is said is its lines. Nothing is stored.
@@ -81,7 +82,7 @@ pub record IsSimulated (form : StimulusForm) (options : NetlistOptions) (kind : 
   pub netlist : Circuit
   pub rows : List (List Bool)
   pub history : List Moment
-  pub cells : IsSomeAnd (before.held (names roles.Library)) (λ text. LibText text library)
+  pub cells : IsSomeAnd (before.held (names roles.Library)) (λ text. LibText (options.accept).controls text library)
   pub says : IsSomeAnd (before.held (names roles.Netlist)) (λ text. SaysNetlist options.form text library options.clock netlist)
   pub drives : IsDrivenBy form (before.held (names roles.Stimulus)) netlist rows
   pub well_formed : IsWellFormed netlist

@@ -118,7 +118,7 @@ fault_in (Err trouble) = Some (refusal_of trouble)
 module _ (asking : Asking) (given : Given) where
   -- what the texts say, as far as they say it
   abbrev pub library_read : Result (List CellData) Trouble
-  library_read = library_found (text_of (given roles.Library))
+  library_read = library_found (asking.netlist).accept (text_of (given roles.Library))
 
   abbrev pub netlist_read : List CellData → Result Circuit Trouble
   netlist_read library = netlist_found (asking.netlist).form library (asking.netlist).clock (text_of (given roles.Netlist))

@@ -8,6 +8,7 @@ ghost use Rattle.cg_run.specs.Run.{Runs};
 ghost use Rattle.cg_command_line.specs.Jobs.{job_of, job_words};
 ghost use Rattle.cg_command_line.specs.Options.{NamesTest};
 ghost use Rattle.cg_tool.specs.Program.{Promises, RunsWords, task_by};
+ghost use Rattle.cg_tool.specs.Telling.{Tells, TellsMode};
 
 use crate::modes::{demo, gate, lrat, sim};
 use crate::watching::{chosen, names_of};
@@ -32,8 +33,9 @@ pub fn run<S: Shelf>(
     watchers: Vec<Box<dyn Watcher>>,
     progress: &mut dyn Progress,
 ) -> Status
-    ensures { Promises (map (λ watcher. says watcher) watchers.items)
+    ensures promises { Promises (map (λ watcher. says watcher) watchers.items)
         (job_of (map (λ watcher. called watcher) watchers.items) (map string_bytes words.now)) (S.world shelf.old) (S.world shelf.new) result }
+    ensures course { Tells (job_of (map (λ watcher. called watcher) watchers.items) (map string_bytes words.now)) result (heard progress.old) (heard progress.new) }
 {
     reach_laws();
     run_words(alloc, words, shelf, watchers, progress)
@@ -47,8 +49,9 @@ fn run_words<S: Shelf>(
     watchers: Vec<Box<dyn Watcher>>,
     progress: &mut dyn Progress,
 ) -> Status
-    ensures { RunsWords (task_by (map (λ watcher. says watcher) watchers.items))
+    ensures runs { RunsWords (task_by (map (λ watcher. says watcher) watchers.items))
         (job_of (map (λ watcher. called watcher) watchers.items) (map string_bytes words.now)) (S.world shelf.old) (S.world shelf.new) result }
+    ensures course { Tells (job_of (map (λ watcher. called watcher) watchers.items) (map string_bytes words.now)) result (heard progress.old) (heard progress.new) }
 {
     match read_job(alloc, words, watchers.as_slice()) {
         Ok(Some(job)) => run_job(alloc, shelf, job, watchers, progress),
@@ -78,8 +81,9 @@ fn run_job<S: Shelf>(
     progress: &mut dyn Progress,
 ) -> Status
     requires { NamesTest job.options }
-    ensures { Runs (task_by (map (λ watcher. says watcher) watchers.items) (job_words job.entry)) (name_of job.entry.names) (S.world shelf.old)
+    ensures runs { Runs (task_by (map (λ watcher. says watcher) watchers.items) (job_words job.entry)) (name_of job.entry.names) (S.world shelf.old)
         (S.world shelf.new) result }
+    ensures course { TellsMode job.entry.mode result (heard progress.old) (heard progress.new) }
 {
     let Job {
         mode,

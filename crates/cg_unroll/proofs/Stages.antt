@@ -15,7 +15,7 @@ use Rattle.cg_claim.specs.declared.leaf.LeafSource.TheVariants.{Input as InputOf
 use Rattle.cg_claim.specs.Leaves.{Leaf, is_reached, leaves_of}
 use Rattle.cg_claim.specs.Question.{After, Before, Changed, Copy, Question}
 use Rattle.cg_claim.specs.Reach.{after_nets, after_states, before_nets, changed_nets, changed_states, enable_nets, feeds}
-use Rattle.cg_claim.specs.Reach.{origin_nets, registers_of, sides_ask, sides_nets}
+use Rattle.cg_claim.specs.Reach.{origin_nets, registers_of, sides_ask, sides_nets, takes_next}
 use Rattle.cg_claim.specs.Tables.{SameOn}
 use Rattle.cg_claim.specs.Violates.{SidesFit}
 use Rattle.cg_claim.proofs.LeafOrder.{leaf_unreached}
@@ -123,34 +123,34 @@ module _ (m : MachineData) (good : IsMachine m) (q : Question) (fits : SidesFit 
     free r = slice_index_or start.free r 0
 
     -- a register is a leaf there exactly where it holds no next bit
-    tells : TellsFollows q.follows free (filter (after_states m q) (registers_of m))
-    tells r among = go (is_in q.follows r) refl
+    tells : TellsFollows m q free (filter (after_states m q) (registers_of m))
+    tells r among = go (takes_next m q r) refl
       where
         passes : after_states m q r ≡ true
         passes = (in_filter (after_states m q) (registers_of m) r among).1
 
-        go : (b : Bool) → is_in q.follows r ≡ b → b ≡ nat_eq (slice_index_or start.free r 0) 0
+        go : (b : Bool) → takes_next m q r ≡ b → b ≡ nat_eq (slice_index_or start.free r 0) 0
         go true is =
             let none : is_reached m q After (RegisterOf r) ≡ false = ap (λ b. after_states m q r && not b) is ∙ and-false (after_states m q r) in
             sym (ap (λ v. nat_eq v 0) (free_is r ∙ leaf_unreached m q aig_values After (RegisterOf r) none))
         go false is =
             sym (ap (λ v. nat_eq v 0) (free_is r)
-            ∙ leaf_is_some m good q After (RegisterOf r) (lt-ltb r (length m.circuit.registers) (after_within m q fits r passes)) (and_from (after_states m q r) (not (is_in q.follows r)) passes (not_from_false (is_in q.follows r) is)))
+            ∙ leaf_is_some m good q After (RegisterOf r) (lt-ltb r (length m.circuit.registers) (after_within m q fits r passes)) (and_from (after_states m q r) (not (takes_next m q r)) passes (not_from_false (takes_next m q r) is)))
 
     states_from : SameOn (after_states m q) (lay_states aig_values m q nets_at own free (filter (after_states m q) (registers_of m)) (table_of s1 start.after.states)) states
     states_from = states_done aig_values m good q fits L (table_of s1 nets0) before (table_of s1 start.after.states) own free before_is refl (λ r passes asks. own_is r) (λ r passes out. free_is r)
 
-    pub states_fail_whole : (fault : AigFault) → ((p : Question) → TellsFollows p.follows free reached.states → MayFail (lay_states aig_values m p nets_at own free reached.states (table_of s1 start.after.states)).domain fault) → MayFail whole fault
+    pub states_fail_whole : (fault : AigFault) → ((p : Question) → TellsFollows m p free reached.states → MayFail (lay_states aig_values m p nets_at own free reached.states (table_of s1 start.after.states)).domain fault) → MayFail whole fault
     states_fail_whole fault h =
         fails_longer states.domain whole fault (stages_fit m q s L).states (subst (λ d. MayFail d fault) states_from.domain
-        (subst (λ rs. MayFail (lay_states aig_values m q nets_at own free rs (table_of s1 start.after.states)).domain fault) reaches.states (h q (subst (TellsFollows q.follows free) (sym reaches.states) tells))))
+        (subst (λ rs. MayFail (lay_states aig_values m q nets_at own free rs (table_of s1 start.after.states)).domain fault) reaches.states (h q (subst (TellsFollows m q free) (sym reaches.states) tells))))
 
     module _ (s2 : Seen) (states1 : List ℕ) (lays1 : LaysStates m nets_at own free reached.states s1 s2 start.after.states states1) where
       states_are : SameOn (after_states m q) (table_of s2 states1) states
       states_are =
           let laid : SameOn (λ _. true) (table_of s2 states1) (lay_states aig_values m q nets_at own free (filter (after_states m q) (registers_of m)) (table_of s1 start.after.states)) =
           subst (λ rs. SameOn (λ _. true) (table_of s2 states1) (lay_states aig_values m q nets_at own free rs (table_of s1 start.after.states))) reaches.states
-          (lays1.same q (subst (TellsFollows q.follows free) (sym reaches.states) tells)) in
+          (lays1.same q (subst (TellsFollows m q free) (sym reaches.states) tells)) in
           same_then (after_states m q) (table_of s2 states1) (lay_states aig_values m q nets_at own free (filter (after_states m q) (registers_of m)) (table_of s1 start.after.states)) states
           (record { domain = laid.domain; at = λ r passes. laid.at r refl }) states_from
 

@@ -1,4 +1,5 @@
 -- States after the first cycle are laid, one after another.
+use Rattle.std.proofs.Common.{IfSome, Option, None, Some}
 use Rattle.std.proofs.Common.{◌≡◌, ℕ, ◌<◌, Bool, true, false, ◌||◌, if◌then◌else◌, List, [], ◌∷◌, ◌++◌, length, nat_eq, slice_set}
 use Rattle.std.proofs.Common.{slice_index_or, refl, sym, ◌∙◌, ap, subst, inl, inr}
 use Rattle.std.proofs.lemmas.Bool.{both_ways, cases_Bool, eq-eqb, eqb-true}
@@ -9,7 +10,8 @@ use Rattle.cg_cell.proofs.Building.{keeps_self, keeps_then}
 use Rattle.cg_cell.proofs.Evals.{valid_then}
 use Rattle.cg_aig.specs.Aig.{aig_ops}
 use Rattle.cg_aig.specs.declared.fault.AigFault.{AigFault}
-use Rattle.cg_machine.specs.Machine.{MachineData, enable_of}
+use Rattle.cg_machine.specs.Claims.{lasting_enable}
+use Rattle.cg_machine.specs.Machine.{MachineData, enable_of, has_controls}
 use Rattle.cg_net.specs.NetSets.{is_in}
 use Rattle.cg_net.proofs.Members.{is_in-append}
 use Rattle.cg_claim.specs.Build.{Table, aig_values, lay_states, mux_run, next_run, put_run, state_run}
@@ -22,21 +24,34 @@ use Rattle.cg_unroll.specs.inner.States.{IsLayingStates, LaysStates, TellsFollow
 use Rattle.cg_unroll.proofs.Building.{fails_longer}
 use Rattle.cg_unroll.proofs.Laying.{everywhere, valid_set, written}
 
+-- what holds of an enable, where there is one
+pub if_some : (P : ℕ → Type 0) (o : Option ℕ) → ((e : ℕ) → o ≡ Some e → P e) → IfSome o P
+if_some P None each = tt
+if_some P (Some e) each = each e refl
+
+-- an enable that lasts is the register's enable
+pub lasting_some : (m : MachineData) (r e : ℕ) → lasting_enable m r ≡ Some e → enable_of m r ≡ Some e
+lasting_some m r e is = go (has_controls m r) is
+  where
+    go : (b : Bool) → (if b then None else enable_of m r) ≡ Some e → enable_of m r ≡ Some e
+    go true none = absurd (cc)
+    go false some = some
+
 -- a register that is no leaf gets its next bit
 pub step_next : (m : MachineData) (nets own free : ℕ → ℕ) (r : ℕ) (s : Seen) → free r ≡ 0 → state_step m nets own free r s ≡ next_run aig_values m nets own r s
 step_next m nets own free r s none =
-    ap (λ b. if b then next_run aig_values m nets own r s else mux_run aig_values (enable_of m r) nets (free r) (own r) s) (eq-eqb (free r) 0 none)
+    ap (λ b. if b then next_run aig_values m nets own r s else mux_run aig_values (lasting_enable m r) nets (free r) (own r) s) (eq-eqb (free r) 0 none)
 
 -- one that is a leaf gets that where it is loaded, and else its own bit
 pub step_loaded : (m : MachineData) (nets own free : ℕ → ℕ) (r leaf state : ℕ) (s : Seen) → leaf ≡ free r → state ≡ own r → (leaf ≡ 0 → ⊥)
-    → state_step m nets own free r s ≡ mux_run aig_values (enable_of m r) nets leaf state s
+    → state_step m nets own free r s ≡ mux_run aig_values (lasting_enable m r) nets leaf state s
 step_loaded m nets own free r leaf state s leaf_is state_is some =
     let other : nat_eq (free r) 0 ≡ false = elim (cases_Bool (nat_eq (free r) 0)) [
       | inl zero ↦ absurd (some (leaf_is ∙ eqb-true (free r) 0 zero))
       | inr unequal ↦ unequal
     ] in
-    ap (λ b. if b then next_run aig_values m nets own r s else mux_run aig_values (enable_of m r) nets (free r) (own r) s) other
-    ∙ (ap (λ a. mux_run aig_values (enable_of m r) nets a (own r) s) (sym leaf_is) ∙ ap (λ a. mux_run aig_values (enable_of m r) nets leaf a s) (sym state_is))
+    ap (λ b. if b then next_run aig_values m nets own r s else mux_run aig_values (lasting_enable m r) nets (free r) (own r) s) other
+    ∙ (ap (λ a. mux_run aig_values (lasting_enable m r) nets a (own r) s) (sym leaf_is) ∙ ap (λ a. mux_run aig_values (lasting_enable m r) nets leaf a s) (sym state_is))
 
 lay_everywhere : (m : MachineData) (q : Question) (nets own free : ℕ → ℕ) (rs : List ℕ) (t u : Table) → SameOn everywhere t u
     → SameOn everywhere (lay_states aig_values m q nets own free rs t) (lay_states aig_values m q nets own free rs u)
@@ -46,8 +61,8 @@ lay_everywhere m q nets own free (r ∷ rs) t u same =
     (put_same aig_values everywhere t u r (state_run aig_values m q nets own free r t.domain) (state_run aig_values m q nets own free r u.domain) same (ap (λ s. state_run aig_values m q nets own free r s) same.domain))
 
 module _ (m : MachineData) (nets own free : ℕ → ℕ) (all left : List ℕ) (r : ℕ) (s t : Seen) (old now : List ℕ) (among : is_in all r ≡ true) (laying : IsLayingStates m nets own free all (r ∷ left) s t old now) where
-  step_is : (q : Question) → TellsFollows q.follows free all → state_step m nets own free r t ≡ state_run aig_values m q nets own free r t
-  step_is q tells = ap (λ b. if b then next_run aig_values m nets own r t else mux_run aig_values (enable_of m r) nets (free r) (own r) t) (sym (tells r among))
+  step_is : (q : Question) → TellsFollows m q free all → state_step m nets own free r t ≡ state_run aig_values m q nets own free r t
+  step_is q tells = ap (λ b. if b then next_run aig_values m nets own r t else mux_run aig_values (lasting_enable m r) nets (free r) (own r) t) (sym (tells r among))
 
   pub states_on : (u : Seen) (v : ℕ) → r < length now → Built t u v (state_step m nets own free r t) → IsLayingStates m nets own free all left s u old (slice_set now r v)
   states_on u v below built = record {
@@ -62,7 +77,7 @@ module _ (m : MachineData) (nets own free : ℕ → ℕ) (all left : List ℕ) (
     long = length-set now r v ∙ laying.long;
   }
 
-  pub states_fail : (fault : AigFault) → MayFail (state_step m nets own free r t).domain fault → (q : Question) → TellsFollows q.follows free all
+  pub states_fail : (fault : AigFault) → MayFail (state_step m nets own free r t).domain fault → (q : Question) → TellsFollows m q free all
       → MayFail (lay_states aig_values m q nets own free all (table_of s old)).domain fault
   states_fail fault h q tells =
       let run = state_run aig_values m q nets own free r t in

@@ -1,7 +1,7 @@
 //! The next bit of a register in one copy.
 
 ghost use Rattle.std.specs.Prelude.{◌≡◌, ◌<◌, ◌≤◌, ◌+◌, ◌++◌, ◌∷◌, [], ℕ, Some, count_by, length, map, slice_get, slice_index_or};
-ghost use Rattle.std.specs.Prelude.{IfErr, IfOk, IsTrue};
+ghost use Rattle.std.specs.Prelude.{IfErr, IfOk, IfSome, IsTrue};
 ghost use Rattle.cg_cell.specs.Domain.{AreValid};
 ghost use Rattle.cg_cell.specs.Eval.{build_term};
 ghost use Rattle.cg_cell.specs.Pins.{is_data};
@@ -11,7 +11,6 @@ ghost use Rattle.cg_netlist.specs.Circuit.{RegisterCell};
 ghost use Rattle.cg_netlist.specs.declared.parts.RegisterKind.TheVariants.{Flop as FlopOf};
 ghost use Rattle.cg_claim.specs.Build.{aig_values, mux_run, next_run};
 ghost use Rattle.cg_claim.specs.Reach.{register_term};
-ghost use Rattle.cg_machine.specs.Machine.{enable_of};
 ghost use Rattle.cg_unroll.specs.Building.{Built, MayFail};
 
 use crate::lay::read_literals;
@@ -19,7 +18,7 @@ use crate::literals::Literals;
 use cg_aig::{Aig, AigFault, AigLit};
 use cg_cell::cell::CellType;
 use cg_machine::machine::Machine;
-use cg_net::id::RegId;
+use cg_net::id::{NetId, RegId};
 use cg_netlist::parts::RegKind;
 
 /// The literal of the next bit of a register, whose own bit has this literal: its function, or, where it has an enable,
@@ -45,30 +44,27 @@ pub fn next_literal(
     let _netlist = machine.netlist();
     let own = states.get(reg.number() as usize);
     let loaded = data_literal(machine, reg, own, literals, aig, buffer)?;
-    loaded_literal(machine, reg, loaded, own, literals, aig)
+    loaded_literal(machine.enable(reg), loaded, own, literals, aig)
 }
 
-/// The first literal where the register's enable is 1, and else the second; the first where it has no enable.
+/// The first literal where an enable is 1, and else the second; the first where there is no enable.
 pub(crate) fn loaded_literal(
-    machine: &Machine,
-    reg: RegId,
+    enable: Option<NetId>,
     loaded: AigLit,
     own: AigLit,
     literals: &Literals,
     aig: &mut Aig,
 ) -> Result<AigLit, AigFault>
-    requires register { reg < length machine.now.circuit.registers }
-    requires literals { length machine.now.circuit.names ≤ length literals.now }
+    requires enable { IfSome enable (λ e. e < length literals.now) }
     requires valid { AreValid aig_ops aig.old literals.now }
     requires loaded { IsTrue (aig_ops.is_valid aig.old loaded) }
     requires own { IsTrue (aig_ops.is_valid aig.old own) }
     ensures built { IfOk result (λ v. Built aig.old aig.new v
-        (mux_run aig_values (enable_of machine.now reg) (λ x. slice_index_or literals.now x 0) loaded own aig.old)) }
+        (mux_run aig_values enable (λ x. slice_index_or literals.now x 0) loaded own aig.old)) }
     ensures failed { IfErr result (λ fault. MayFail
-        (mux_run aig_values (enable_of machine.now reg) (λ x. slice_index_or literals.now x 0) loaded own aig.old).domain fault) }
+        (mux_run aig_values enable (λ x. slice_index_or literals.now x 0) loaded own aig.old).domain fault) }
 {
-    let _netlist = machine.netlist();
-    match machine.enable(reg) {
+    match enable {
         Some(enable) => aig.mux(literals.get(enable.number() as usize), loaded, own),
         None => Ok(loaded),
     }

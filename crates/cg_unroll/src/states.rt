@@ -22,7 +22,7 @@ pub(crate) struct StateSources<'a> {
     /// Those of the registers in the first cycle.
     pub(crate) own: &'a Literals,
 
-    /// Those of the leaves of the registers that nothing is said of. A register that holds its next bit is no such leaf,
+    /// Those of the leaves of the registers that do not hold their next bits. A register that holds its next bit is no such leaf,
     /// and has the constant 0 there.
     pub(crate) free: &'a Literals,
 
@@ -50,7 +50,7 @@ pub(crate) fn put_states(
     requires valid_nets { AreValid aig_ops aig.old sources.now.nets.now }
     ensures laid { OnOk result (LaysStates machine.now (λ x. slice_index_or sources.now.nets.now x 0) (λ r. slice_index_or sources.now.own.now r 0) (λ r. slice_index_or sources.now.free.now r 0)
         registers.now aig.old aig.new states.old states.new) }
-    ensures failed { IfErr result (λ fault. (q : Question) → TellsFollows q.follows (λ r. slice_index_or sources.now.free.now r 0) registers.now
+    ensures failed { IfErr result (λ fault. (q : Question) → TellsFollows machine.now q (λ r. slice_index_or sources.now.free.now r 0) registers.now
         → MayFail (lay_states aig_values machine.now q (λ x. slice_index_or sources.now.nets.now x 0) (λ r. slice_index_or sources.now.own.now r 0) (λ r. slice_index_or sources.now.free.now r 0)
         registers.now (table_of aig.old states.old)).domain fault) }
 {
@@ -62,8 +62,8 @@ pub(crate) fn put_states(
     Ok(())
 }
 
-/// The literal of the state that a register has after the first cycle: its next bit, or, where it is a leaf, that bit
-/// where it is loaded and else its own.
+/// The literal of the state that a register has after the first cycle: its next bit, or, where it is a leaf, that bit, and its own
+/// where an enable decides that it keeps it.
 fn state_literal(
     machine: &Machine,
     reg: RegId,
@@ -84,12 +84,13 @@ fn state_literal(
         (state_step machine.now (λ x. slice_index_or sources.now.nets.now x 0) (λ r. slice_index_or sources.now.own.now r 0)
         (λ r. slice_index_or sources.now.free.now r 0) reg aig.old).domain fault) }
 {
+    let _netlist = machine.netlist();
     let leaf = sources.free.get(reg.number() as usize);
     if leaf.number() == 0 {
         return next_literal(machine, reg, sources.own, sources.nets, aig, buffer);
     }
     let state = sources.own.get(reg.number() as usize);
-    loaded_literal(machine, reg, leaf, state, sources.nets, aig)
+    loaded_literal(machine.lasting_enable(reg), leaf, state, sources.nets, aig)
 }
 
 /// Puts at these registers their literals of `states`, where they have none yet.

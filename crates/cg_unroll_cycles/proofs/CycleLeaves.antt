@@ -1,5 +1,5 @@
--- The leaves of a question one by one: those of a cycle are its reached inputs and, in the first cycle, its reached registers, and
--- each leaf stands there once, so that its number is its place.
+-- The leaves of a question one by one: those of a cycle are its reached inputs and its reached registers that are given, and each leaf
+-- stands there once, so that its number is its place.
 use Rattle.std.proofs.Common.{◌≡◌, ℕ, zero, suc, ◌+◌, ◌*◌, ◌<◌, ◌≤◌, Bool, true, false, ◌&&◌, ◌||◌, cond, if◌then◌else◌, List, [], ◌∷◌, ◌++◌}
 use Rattle.std.proofs.Common.{map, length, nat_eq, slice_get, Some, option_map, refl, sym, ◌∙◌, ap, subst, arith, inl, inr}
 use Rattle.std.specs.List.{IsDistinct, filter, flat_map, list_any, range_with_len}
@@ -14,7 +14,7 @@ use Rattle.cg_net.specs.NetSets.{is_in}
 use Rattle.cg_net.proofs.Members.{distinct_head, distinct_tail}
 use Rattle.cg_netlist.specs.Circuit.{data_inputs}
 use Rattle.cg_netlist.proofs.Driven.{distinct_filter, distinct_range}
-use Rattle.cg_machine.specs.Machine.{IsMachine, MachineData}
+use Rattle.cg_machine.specs.Machine.{IsMachine, MachineData, has_controls}
 use Rattle.cg_machine.proofs.Lists.{below_range}
 use Rattle.cg_claim.specs.Leaves.{is_source, same_source, sources}
 use Rattle.cg_claim.specs.Reach.{registers_of}
@@ -22,16 +22,17 @@ use Rattle.cg_claim.specs.declared.leaf.Leaf.{Leaf}
 use Rattle.cg_claim.specs.declared.leaf.LeafSource.{LeafSource}
 use Rattle.cg_claim.specs.declared.leaf.LeafSource.TheVariants.{Input, Register}
 use Rattle.cg_claim.proofs.LeavesFound.{source_is, source_self}
-use Rattle.cg_claim.proofs.OneCopy.{filter_none}
+use Rattle.cg_claim.proofs.HoldWidths.{same_test}
 use Rattle.cg_claim_reach.specs.Leaves.{input_leaf, register_leaf}
+use Rattle.cg_claim_reach.proofs.Filtering.{filter_twice}
 use Rattle.cg_claim.specs.form.Leaves.{leaf_place, same_leaf}
 use Rattle.cg_hint_laws.specs.Leaves.{is_leaf, leaves_at, leaves_of, width_of}
 use Rattle.cg_hint_laws.specs.Question.{Question}
-use Rattle.cg_hint_laws.specs.Reach.{asked_of, nets_of}
+use Rattle.cg_hint_laws.specs.Reach.{nets_of, states_of}
 use Rattle.cg_unroll.proofs.Building.{map_same_list}
 use Rattle.cg_unroll.proofs.FewLeaves.{few_inputs, fewer, inputs_once}
 use Rattle.cg_unroll_cycles.specs.declared.reached.CycleReach.{CycleReach}
-use Rattle.cg_unroll_cycles.specs.inner.Reached.{IsReachOf}
+use Rattle.cg_unroll_cycles.specs.inner.Reached.{IsCycle, given_in}
 
 -- the leaf of a source in a cycle
 abbrev pub leaf : ℕ → LeafSource → Leaf
@@ -77,16 +78,22 @@ leaves_are m q i =
     ∙ (ap (λ l. l ++ map (leaf i) (map Register (registers_at m q i))) (map_two (leaf i) Input (input_leaf i) (λ y. refl) (inputs_at m q i))
     ∙ ap (λ l. map (input_leaf i) (inputs_at m q i) ++ l) (map_two (leaf i) Register (register_leaf i) (λ r. refl) (registers_at m q i))))
 
--- behind the first cycle there are inputs alone
-pub later_leaves_are : (m : MachineData) (q : Question) (i : ℕ) → leaves_at m q (suc i) ≡ map (input_leaf (suc i)) (inputs_at m q (suc i))
-later_leaves_are m q i =
-    leaves_are m q (suc i)
-    ∙ (ap (λ l. map (input_leaf (suc i)) (inputs_at m q (suc i)) ++ map (register_leaf (suc i)) l) (filter_none (λ r. false) (registers_of m) (λ r. refl))
-    ∙ append_none (map (input_leaf (suc i)) (inputs_at m q (suc i))))
+-- the registers of a cycle that are leaves are those that are reached and given there
+pub registers_are : (m : MachineData) (q : Question) (i : ℕ) → filter (given_in m i) (filter (states_of m q i) (registers_of m)) ≡ registers_at m q i
+registers_are m q zero = filter_twice (states_of m q 0) (λ r. true) (registers_of m) ∙ same_test (λ r. states_of m q 0 r && true) (states_of m q 0) (registers_of m) (λ r. both (states_of m q 0 r))
   where
-    append_none : {X : Type 0} (xs : List X) → xs ++ [] ≡ xs
-    append_none [] = refl
-    append_none (x ∷ xs) = ap (λ l. x ∷ l) (append_none xs)
+    both : (a : Bool) → (a && true) ≡ a
+    both true = refl
+    both false = refl
+registers_are m q (suc i) =
+    filter_twice (states_of m q (suc i)) (has_controls m) (registers_of m)
+    ∙ same_test (λ r. states_of m q (suc i) r && has_controls m r) (λ r. is_leaf m q (suc i) (Register r)) (registers_of m) (λ r. swapped (states_of m q (suc i) r) (has_controls m r))
+  where
+    swapped : (a b : Bool) → (a && b) ≡ ((b || false) && a)
+    swapped true true = refl
+    swapped true false = refl
+    swapped false true = refl
+    swapped false false = refl
 
 -- each leaf differs from those behind it
 abbrev pub AreApart : List Leaf → Type 0
@@ -162,19 +169,24 @@ kinds_apart i ys rs l among = go l.source among
     go (Input y) h = no_register y rs
     go (Register r) h = absurd (both_ways (list_any (same_leaf (leaf l.copy (Register r))) (map (input_leaf i) ys)) (no_input r ys) h)
 
--- what a leaf of a cycle is
-among_at : (i : ℕ) (test : LeafSource → Bool) (all : List LeafSource) (l : Leaf) → list_any (same_leaf l) (map (leaf i) (filter test all)) ≡ true → (nat_eq l.copy i ≡ true) × (list_any (same_source l.source) all ≡ true)
-among_at i test [] l among = absurd (both_ways false refl among)
-among_at i test (x ∷ all) l among = go (among_at i test all l) (test x) among
-  where
-    later : (nat_eq l.copy i ≡ true) × (list_any (same_source l.source) all ≡ true) → (nat_eq l.copy i ≡ true) × ((same_source l.source x || list_any (same_source l.source) all) ≡ true)
-    later p = (p.0, or_right (same_source l.source x) (list_any (same_source l.source) all) p.1)
+-- what a leaf of a cycle is: of this copy, and one of the sources that pass
+abbrev IsAt : ℕ → (LeafSource → Bool) → List LeafSource → Leaf → Type 0
+IsAt i test all l = (nat_eq l.copy i ≡ true) × (list_any (same_source l.source) all ≡ true) × (test l.source ≡ true)
 
-    go : (list_any (same_leaf l) (map (leaf i) (filter test all)) ≡ true → (nat_eq l.copy i ≡ true) × (list_any (same_source l.source) all ≡ true))
-        → (b : Bool) → list_any (same_leaf l) (map (leaf i) (cond b (x ∷ filter test all) (filter test all))) ≡ true → (nat_eq l.copy i ≡ true) × ((same_source l.source x || list_any (same_source l.source) all) ≡ true)
-    go rest false h = later (rest h)
-    go rest true h = elim (or_cases (nat_eq l.copy i && same_source l.source x) (list_any (same_leaf l) (map (leaf i) (filter test all))) h) [
-      | inl here ↦ let p = and_parts (nat_eq l.copy i) (same_source l.source x) here in (p.0, or_left (same_source l.source x) (list_any (same_source l.source) all) p.1)
+among_at : (i : ℕ) (test : LeafSource → Bool) (all : List LeafSource) (l : Leaf) → list_any (same_leaf l) (map (leaf i) (filter test all)) ≡ true → IsAt i test all l
+among_at i test [] l among = absurd (both_ways false refl among)
+among_at i test (x ∷ all) l among = go (among_at i test all l) (test x) refl among
+  where
+    later : IsAt i test all l → IsAt i test (x ∷ all) l
+    later p = (p.0, or_right (same_source l.source x) (list_any (same_source l.source) all) p.1, p.2)
+
+    go : (list_any (same_leaf l) (map (leaf i) (filter test all)) ≡ true → IsAt i test all l)
+        → (b : Bool) → test x ≡ b → list_any (same_leaf l) (map (leaf i) (cond b (x ∷ filter test all) (filter test all))) ≡ true → IsAt i test (x ∷ all) l
+    go rest false passes h = later (rest h)
+    go rest true passes h = elim (or_cases (nat_eq l.copy i && same_source l.source x) (list_any (same_leaf l) (map (leaf i) (filter test all))) h) [
+      | inl here ↦
+          let p = and_parts (nat_eq l.copy i) (same_source l.source x) here in
+          (p.0, or_left (same_source l.source x) (list_any (same_source l.source) all) p.1, ap test (source_is l.source x p.1) ∙ passes)
       | inr there ↦ later (rest there)
     ]
 
@@ -182,11 +194,14 @@ module _ (m : MachineData) (q : Question) where
   abbrev from : ℕ → ℕ → List Leaf
   from a n = flat_map (leaves_at m q) (range_with_len a n)
 
-  among_from : (n a : ℕ) (l : Leaf) → list_any (same_leaf l) (from a n) ≡ true → (a ≤ l.copy) × (list_any (same_source l.source) (sources m) ≡ true)
+  among_from : (n a : ℕ) (l : Leaf) → list_any (same_leaf l) (from a n) ≡ true → (a ≤ l.copy) × (list_any (same_source l.source) (sources m) ≡ true) × (is_leaf m q l.copy l.source ≡ true)
   among_from zero a l among = absurd (both_ways false refl among)
   among_from (suc n) a l among = elim (or_cases (list_any (same_leaf l) (leaves_at m q a)) (list_any (same_leaf l) (from (a + 1) n)) (sym (list_any-append (same_leaf l) (leaves_at m q a) (from (a + 1) n)) ∙ among)) [
-    | inl here ↦ let p = among_at a (is_leaf m q a) (sources m) l here in let e : l.copy ≡ a = eqb-true l.copy a p.0 in (omega (arith, e), p.1)
-    | inr there ↦ let p = among_from n (a + 1) l there in (omega (arith, p.0), p.1)
+    | inl here ↦
+        let p = among_at a (is_leaf m q a) (sources m) l here in
+        let e : l.copy ≡ a = eqb-true l.copy a p.0 in
+        (omega (arith, e), p.1, ap (λ i. is_leaf m q i l.source) e ∙ p.2)
+    | inr there ↦ let p = among_from n (a + 1) l there in (omega (arith, p.0), p.1, p.2)
   ]
 
   cycle_apart : IsMachine m → (i : ℕ) → AreApart (leaves_at m q i)
@@ -208,6 +223,10 @@ module _ (m : MachineData) (q : Question) where
 
   pub leaves_apart : IsMachine m → AreApart (leaves_of m q)
   leaves_apart good = apart_from good (q.after + 1) 0
+
+  -- each leaf is one of its cycle
+  pub leaf_passes : (k : ℕ) (l : Leaf) → slice_get (leaves_of m q) k ≡ Some l → is_leaf m q l.copy l.source ≡ true
+  leaf_passes k l at = (among_from (q.after + 1) 0 l (stands (leaves_of m q) k l l at (leaf_self l))).2
 
   -- each leaf stands for a data input or a register that is there
   pub leaf_source : (k : ℕ) (l : Leaf) → slice_get (leaves_of m q) k ≡ Some l → is_source m l.source ≡ true
@@ -261,25 +280,23 @@ module _ (m : MachineData) (q : Question) where
   pub few_leaves : IsMachine m → q.after < 256 → width_of m q ≤ 285212672
   few_leaves good small = let few = few_from good (q.after + 1) 0 in omega (arith, few, small)
 
-  -- the leaves of the first cycle are put behind others, and those of a later one
-  pub first_pushed : (first : CycleReach) (old mid new : List Leaf) (inputs registers : List ℕ) → IsReachOf m (asked_of m q 0) first → inputs ≡ first.cone.inputs → registers ≡ first.states
-      → mid ≡ old ++ map (input_leaf 0) inputs → new ≡ mid ++ map (register_leaf 0) registers → new ≡ old ++ leaves_at m q 0
-  first_pushed first old mid new inputs registers is ins regs one two =
-      two ∙ (ap (λ l. l ++ map (register_leaf 0) registers) one
-      ∙ (append_assoc old (map (input_leaf 0) inputs) (map (register_leaf 0) registers)
-      ∙ ap (λ l. old ++ l) (ap (λ l. map (input_leaf 0) l ++ map (register_leaf 0) registers) (ins ∙ is.cone.inputs)
-      ∙ (ap (λ l. map (input_leaf 0) (inputs_at m q 0) ++ map (register_leaf 0) l) (regs ∙ is.states) ∙ sym (leaves_are m q 0)))))
+  -- the leaves of a cycle are put behind others
+  pub cycle_pushed : (i : ℕ) (cycle : CycleReach) (old mid new : List Leaf) (inputs registers : List ℕ) → IsCycle m q i cycle → inputs ≡ cycle.cone.inputs → registers ≡ cycle.given
+      → mid ≡ old ++ map (input_leaf i) inputs → new ≡ mid ++ map (register_leaf i) registers → new ≡ old ++ leaves_at m q i
+  cycle_pushed i cycle old mid new inputs registers is ins regs one two =
+      two ∙ (ap (λ l. l ++ map (register_leaf i) registers) one
+      ∙ (append_assoc old (map (input_leaf i) inputs) (map (register_leaf i) registers)
+      ∙ ap (λ l. old ++ l) (ap (λ l. map (input_leaf i) l ++ map (register_leaf i) registers) (ins ∙ is.cone.inputs)
+      ∙ (ap (λ l. map (input_leaf i) (inputs_at m q i) ++ map (register_leaf i) l) (regs ∙ (is.given ∙ registers_are m q i)) ∙ sym (leaves_are m q i)))))
 
-  pub later_pushed : (i : ℕ) (cycle : CycleReach) (start old new : List Leaf) (inputs : List ℕ) → IsReachOf m (asked_of m q (i + 1)) cycle → inputs ≡ cycle.cone.inputs
-      → new ≡ old ++ map (input_leaf (i + 1)) inputs → old ≡ start ++ flat_map (leaves_at m q) (range_with_len 1 i) → new ≡ start ++ flat_map (leaves_at m q) (range_with_len 1 (i + 1))
-  later_pushed i cycle start old new inputs is ins pushed so_far =
-      let e : i + 1 ≡ suc i = omega arith in
-      let one : map (input_leaf (i + 1)) inputs ≡ leaves_at m q (suc i) =
-      ap (λ n. map (input_leaf n) inputs) e ∙ (ap (map (input_leaf (suc i))) (ins ∙ (subst (λ n. IsReachOf m (asked_of m q n) cycle) e is).cone.inputs) ∙ sym (later_leaves_are m q i)) in
-      let f : 1 + i ≡ suc i = omega arith in
-      pushed ∙ (ap (λ l. l ++ map (input_leaf (i + 1)) inputs) so_far
-      ∙ (append_assoc start (from 1 i) (map (input_leaf (i + 1)) inputs)
-      ∙ ap (λ l. start ++ l) (ap (λ l. from 1 i ++ l) (one ∙ ap (leaves_at m q) (sym f)) ∙ sym (ap (flat_map (leaves_at m q)) (range_end i) ∙ flat_end (range_with_len 1 i) (1 + i)))))
+  -- and so those of one cycle more
+  pub later_pushed : (i : ℕ) (start old new : List Leaf) → new ≡ old ++ leaves_at m q (i + 1) → old ≡ start ++ flat_map (leaves_at m q) (range_with_len 1 i)
+      → new ≡ start ++ flat_map (leaves_at m q) (range_with_len 1 (i + 1))
+  later_pushed i start old new pushed so_far =
+      let e : i + 1 ≡ 1 + i = omega arith in
+      pushed ∙ (ap (λ l. l ++ leaves_at m q (i + 1)) so_far
+      ∙ (append_assoc start (from 1 i) (leaves_at m q (i + 1))
+      ∙ ap (λ l. start ++ l) (ap (λ n. from 1 i ++ leaves_at m q n) e ∙ sym (ap (flat_map (leaves_at m q)) (range_end i) ∙ flat_end (range_with_len 1 i) (1 + i)))))
     where
       range_end : (n : ℕ) → range_with_len 1 (n + 1) ≡ range_with_len 1 n ++ (1 + n) ∷ []
       range_end n = sym (map_same_list (range_with_len 1 (n + 1))) ∙ (map-range_with_len_more (λ (k : ℕ). k) 1 n (1 + n) refl ∙ ap (λ l. l ++ (1 + n) ∷ []) (map_same_list (range_with_len 1 n)))

@@ -1,15 +1,16 @@
 -- The cycles of a question as the program lays them are those of the definition, where they are reached.
-use Rattle.std.proofs.Common.{◌≡◌, ℕ, suc, ◌≤◌, true, List, [], ◌∷◌, length, slice_index_or, IsTrue, refl, sym, subst}
+use Rattle.std.proofs.Common.{◌≡◌, ℕ, suc, ◌≤◌, true, false, not, List, length, slice_index_or, refl, ◌∙◌, subst}
+use Rattle.std.proofs.lemmas.Bool.{both_ways}
 use Rattle.std.specs.List.{filter}
-use Rattle.cg_cell.specs.Domain.{AreValid, Seen}
-use Rattle.cg_aig.specs.Aig.{aig_ops}
+use Rattle.cg_cell.specs.Domain.{Seen}
 use Rattle.cg_aig.specs.declared.fault.AigFault.{AigFault}
 use Rattle.cg_net.specs.NetSets.{is_in}
 use Rattle.cg_netlist.proofs.Filtered.{in_filter}
-use Rattle.cg_machine.specs.Machine.{IsMachine, MachineData}
+use Rattle.cg_machine.specs.Machine.{IsMachine, MachineData, has_controls}
 use Rattle.cg_claim.specs.Build.{Table, aig_values, start_nets}
 use Rattle.cg_claim.specs.Reach.{registers_of}
 use Rattle.cg_claim.specs.Tables.{SameOn}
+use Rattle.cg_claim_reach.proofs.Filtering.{in_ranged}
 use Rattle.cg_claim.specs.declared.leaf.Leaf.{Leaf}
 use Rattle.cg_claim.specs.declared.leaf.LeafSource.TheVariants.{Input, Register}
 use Rattle.cg_claim.proofs.ReachedOnly.{copy_laid, same_then}
@@ -22,15 +23,15 @@ use Rattle.cg_hint_laws.proofs.Reached.{feeding_reached, origin_nets, origin_sta
 use Rattle.cg_unroll.specs.Building.{MayFail, table_of}
 use Rattle.cg_unroll.specs.Laid.{CopyFails, LaysCopy, copy_table}
 use Rattle.cg_unroll.specs.Placing.{FillsLeaves, place_in}
-use Rattle.cg_unroll.specs.Sparse.{AreZero}
 use Rattle.cg_unroll.specs.declared.tables.CopyTables.{CopyTables}
 use Rattle.cg_unroll.specs.declared.tables.Sources.TheVariants.{Inputs, Registers}
 use Rattle.cg_unroll.proofs.Building.{fails_longer}
 use Rattle.cg_unroll_cycles.specs.Asking.{AsksThere}
 use Rattle.cg_unroll_cycles.specs.declared.reached.CycleReach.{CycleReach}
 use Rattle.cg_unroll_cycles.specs.inner.Laid.{AgreesWith, HoldsCycle, LaysNext, built_cycle, cycle_of}
-use Rattle.cg_unroll_cycles.specs.inner.Reached.{IsReachOf}
-use Rattle.cg_unroll_cycles.proofs.CyclesDone.{goal_same, lay_next_same}
+use Rattle.cg_unroll_cycles.specs.inner.Reached.{IsCycle}
+use Rattle.cg_unroll_cycles.proofs.CycleStates.{states_laid}
+use Rattle.cg_unroll_cycles.proofs.CyclesDone.{goal_same}
 use Rattle.cg_unroll_cycles.proofs.LeafLiterals.{holds_inputs, table_is}
 use Rattle.cg_unroll_cycles.proofs.Wholes.{next_fits}
 
@@ -53,7 +54,7 @@ module _ (m : MachineData) (good : IsMachine m) (q : Question) (asks : AsksThere
 
   module _ (s : Seen) where
     -- the first cycle
-    module _ (cycle : CycleReach) (reached : IsReachOf m (asked_of m q 0) cycle) (states old : List ℕ)
+    module _ (cycle : CycleReach) (reached : IsCycle m q 0 cycle) (states old : List ℕ)
         (registers : FillsLeaves (place_in 0 Registers) L (length L) states) (inputs : FillsLeaves (place_in 0 Inputs) L (length L) old) where
       abbrev own : Table
       own = record { domain = s; at = λ r. leaf_value aig_values L 0 (Register r) }
@@ -72,33 +73,41 @@ module _ (m : MachineData) (good : IsMachine m) (q : Question) (asks : AsksThere
 
     -- a cycle behind another
     module _ (i : ℕ) (below : suc i ≤ q.after) (before : CopyTables) (s1 : Seen) (holds : HoldsCycle m q s i s1 before)
-        (cycle : CycleReach) (reached : IsReachOf m (asked_of m q (suc i)) cycle) (zeros old : List ℕ) (zero : AreZero zeros) (inputs : FillsLeaves (place_in (suc i) Inputs) L (length L) old) where
+        (cycle : CycleReach) (reached : IsCycle m q (suc i) cycle) (states0 old : List ℕ)
+        (given : FillsLeaves (place_in (suc i) Registers) L (length L) states0) (inputs : FillsLeaves (place_in (suc i) Inputs) L (length L) old) where
       abbrev rs : List ℕ
       rs = filter (states_of m q (suc i)) (registers_of m)
 
       abbrev next : Table
       next = next_states aig_values m q (suc i) (built_cycle m q s i)
 
-      next_from : SameOn (states_of m q (suc i)) (lay_next aig_values m (cycle_of before s1) rs (table_of s1 zeros)) next
+      abbrev free : List ℕ
+      free = filter (λ r. not (has_controls m r)) rs
+
+      next_from : SameOn (states_of m q (suc i)) (lay_next aig_values m (cycle_of before s1) free (table_of s1 states0)) next
       next_from =
           let passes : (r : ℕ) → is_in rs r ≡ true → states_of m q (suc i) r ≡ true = λ r among. (in_filter (states_of m q (suc i)) (registers_of m) r among).1 in
-          let laid = lay_next_same aig_values m (cycle_of before s1) (built_cycle m q s i) rs (λ x. true) (table_of s1 zeros) (record { domain = (built_cycle m q s i).domain; at = λ r. 0 })
-          (λ r among. states_within m q asks.asked (suc i) r (passes r among))
-          (λ r among y reads. holds.agrees.nets y (origin_nets m q asks.asked i below r (passes r among) y reads))
-          (λ r among own. holds.agrees.states r (origin_state m q asks.asked i below r (passes r among) own))
-          (record { domain = holds.domain; at = λ x _. zero x }) in
-          record { domain = laid.domain; at = λ r reaching. laid.at r refl }
+          let laid = states_laid aig_values m (λ r. leaf_value aig_values L (suc i) (Register r)) (cycle_of before s1) (built_cycle m q s i) rs (λ x. false)
+          (table_of s1 states0) (record { domain = (built_cycle m q s i).domain; at = λ r. 0 })
+          (record {
+            there = λ r among. states_within m q asks.asked (suc i) r (passes r among);
+            nets = λ r among none y reads. holds.agrees.nets y (origin_nets m q asks.asked i below r (passes r among) none y reads);
+            states = λ r among none own. holds.agrees.states r (origin_state m q asks.asked i below r (passes r among) none own);
+          })
+          (λ r forced. table_is m good q (suc i) Registers states0 given r)
+          (record { domain = holds.domain; at = λ x none. absurd (both_ways false refl none) }) in
+          record { domain = laid.domain; at = λ r reaching. laid.at r (in_ranged (states_of m q (suc i)) (length m.circuit.registers) r (states_within m q asks.asked (suc i)) ∙ reaching) }
 
-      pub next_fails : (fault : AigFault) → MayFail (lay_next aig_values m (cycle_of before s1) cycle.states (table_of s1 zeros)).domain fault → MayFail (built_cycle m q s (suc i)).domain fault
+      pub next_fails : (fault : AigFault) → MayFail (lay_next aig_values m (cycle_of before s1) cycle.follows (table_of s1 states0)).domain fault → MayFail (built_cycle m q s (suc i)).domain fault
       next_fails fault h =
           fails_longer next.domain (built_cycle m q s (suc i)).domain fault (next_fits m q s i)
-          (subst (λ d. MayFail d fault) next_from.domain (subst (λ rs. MayFail (lay_next aig_values m (cycle_of before s1) rs (table_of s1 zeros)).domain fault) reached.states h))
+          (subst (λ d. MayFail d fault) next_from.domain (subst (λ rs. MayFail (lay_next aig_values m (cycle_of before s1) rs (table_of s1 states0)).domain fault) reached.follows h))
 
-      module _ (s2 : Seen) (states : List ℕ) (lays : LaysNext m (cycle_of before s1) cycle.states s1 s2 zeros states) where
+      module _ (s2 : Seen) (states : List ℕ) (lays : LaysNext m (cycle_of before s1) cycle.follows s1 s2 states0 states) where
         states_are : SameOn (states_of m q (suc i)) (table_of s2 states) next
         states_are =
-            let same = subst (λ rs. SameOn (λ _. true) (table_of s2 states) (lay_next aig_values m (cycle_of before s1) rs (table_of s1 zeros))) reached.states lays.same in
-            same_then (states_of m q (suc i)) (table_of s2 states) (lay_next aig_values m (cycle_of before s1) rs (table_of s1 zeros)) next (record { domain = same.domain; at = λ r _. same.at r refl }) next_from
+            let same = subst (λ rs. SameOn (λ _. true) (table_of s2 states) (lay_next aig_values m (cycle_of before s1) rs (table_of s1 states0))) reached.follows lays.same in
+            same_then (states_of m q (suc i)) (table_of s2 states) (lay_next aig_values m (cycle_of before s1) free (table_of s1 states0)) next (record { domain = same.domain; at = λ r _. same.at r refl }) next_from
 
         later_from : SameOn (is_in (nets_of m q (suc i))) (copy_table m (nets_of m q (suc i)) (ins (suc i)) states s2) (record { domain = (from (suc i) next).domain; at = (from (suc i) next).nets })
         later_from = from_is (suc i) next s2 states states_are.domain states_are.at
@@ -117,8 +126,3 @@ pub goal_is : (m : MachineData) (q : Question) → AsksThere m q → (s t : Seen
     → goal_run aig_values m q (cycle_of first t) (cycle_of last t) ≡ question_run aig_values m q s
 goal_is m q asks s t first last agrees holds =
     goal_same aig_values m q asks.asked (cycle_of first t) (built_cycle m q s 0) (cycle_of last t) (built_cycle m q s q.after) agrees.nets holds.agrees.nets holds.agrees.states holds.domain
-
--- zeros are literals of each list that has the constant
-pub zeros_valid : (s : Seen) (values : List ℕ) → IsTrue (aig_ops.is_valid s 0) → AreZero values → AreValid aig_ops s values
-zeros_valid s [] h zero = tt
-zeros_valid s (v ∷ values) h zero = (subst (λ a. IsTrue (aig_ops.is_valid s a)) (sym (zero 0)) h, zeros_valid s values h (λ x. zero (suc x)))

@@ -1,8 +1,7 @@
 -- What is built of a cycle depends on what is reached alone: tables that are alike there lead to tables that are alike there, and
 -- to the same goal.
-use Rattle.std.proofs.Common.{◌≡◌, ℕ, ◌<◌, Bool, true, false, ◌||◌, if◌then◌else◌, List, [], ◌∷◌, ◌++◌, map, length}
-use Rattle.std.proofs.Common.{nat_eq, Option, Some, None, refl, sym, ◌∙◌, ap}
-use Rattle.std.proofs.lemmas.Bool.{both_ways}
+use Rattle.std.proofs.Common.{◌≡◌, ℕ, true, if◌then◌else◌, List, [], ◌∷◌, ◌++◌, map}
+use Rattle.std.proofs.Common.{Option, Some, None, refl, ◌∙◌, ap}
 use Rattle.cg_cell.specs.Build.{Run, build_and, build_or, build_xor, chain}
 use Rattle.cg_cell.specs.Domain.{Seen}
 use Rattle.cg_net.specs.NetSets.{is_in}
@@ -10,12 +9,10 @@ use Rattle.cg_net.proofs.Members.{is_in_left, is_in_right}
 use Rattle.cg_netlist.proofs.RisingPlaces.{in_head, in_tail}
 use Rattle.cg_machine.specs.Claims.{Literal}
 use Rattle.cg_machine.specs.Machine.{MachineData}
-use Rattle.cg_claim.specs.Build.{Table, Values, literal_of, next_run, put_run}
-use Rattle.cg_claim.specs.Reach.{next_asks_own, next_nets}
-use Rattle.cg_claim.specs.Tables.{SameOn}
+use Rattle.cg_claim.specs.Build.{Values, literal_of, next_run}
 use Rattle.cg_claim.proofs.ReachedOnly.{next_same}
 use Rattle.cg_claim.specs.form.Build.{Cycle, and_run, condition_run, or_run, term_run}
-use Rattle.cg_hint_laws.specs.Build.{goal_of, goal_run, lay_next}
+use Rattle.cg_hint_laws.specs.Build.{goal_of, goal_run}
 use Rattle.cg_hint_laws.specs.Hints.{condition_nets}
 use Rattle.cg_hint_laws.specs.Question.{Question}
 use Rattle.cg_hint_laws.specs.Reach.{nets_of, states_of}
@@ -65,39 +62,6 @@ module _ (d : Values) (nets nets' : ℕ → ℕ) where
       ∙ ap (λ (z : Run). record { calls = r.calls ++ z.calls; answer = z.answer; domain = z.domain }) (or_same r.answer terms r.domain (rest_of term terms same))
 
 module _ (d : Values) (m : MachineData) where
-  -- next bits that are laid are alike at the registers that were laid
-  pub lay_next_same : (c e : Cycle) (rs : List ℕ) (done : ℕ → Bool) (t u : Table)
-      → ((r : ℕ) → is_in rs r ≡ true → r < length m.circuit.registers)
-      → ((r : ℕ) → is_in rs r ≡ true → (y : ℕ) → is_in (next_nets m r) y ≡ true → c.nets y ≡ e.nets y)
-      → ((r : ℕ) → is_in rs r ≡ true → next_asks_own m r ≡ true → c.states r ≡ e.states r)
-      → SameOn done t u → SameOn (λ x. done x || is_in rs x) (lay_next d m c rs t) (lay_next d m e rs u)
-  lay_next_same c e [] done t u within reads own same = record { domain = same.domain; at = λ x passes. same.at x (last (done x) passes) }
-    where
-      last : (b : Bool) → (b || false) ≡ true → b ≡ true
-      last true h = refl
-      last false h = h
-  lay_next_same c e (r ∷ rs) done t u within reads own same =
-      let one : Run = next_run d m c.nets c.states r t.domain in
-      let other : Run = next_run d m e.nets e.states r u.domain in
-      let is : one ≡ other = ap (λ s. next_run d m c.nets c.states r s) same.domain
-      ∙ next_same d m c.nets e.nets c.states e.states r u.domain (within r (in_head r rs)) (reads r (in_head r rs)) (own r (in_head r rs)) in
-      let rest = lay_next_same c e rs (λ x. done x || nat_eq x r) (put_run t r one) (put_run u r other)
-      (λ k among. within k (in_tail k r rs among)) (λ k among. reads k (in_tail k r rs among)) (λ k among. own k (in_tail k r rs among)) (record {
-        domain = ap (λ (z : Run). z.domain) is;
-        at = λ x passes. put_at x (done x) (nat_eq x r) passes (λ before. same.at x before) one.answer other.answer (ap (λ (z : Run). z.answer) is) refl refl;
-      }) in
-      record { domain = rest.domain; at = λ x passes. rest.at x (shift (done x) (nat_eq x r) (is_in rs x) passes) }
-    where
-      shift : (a b c : Bool) → (a || (b || c)) ≡ true → ((a || b) || c) ≡ true
-      shift true b c h = refl
-      shift false b c h = h
-
-      put_at : (x : ℕ) (a b : Bool) → (a || b) ≡ true → (done x ≡ true → t.at x ≡ u.at x) → (v w : ℕ) → v ≡ w → done x ≡ a → nat_eq x r ≡ b
-          → (if nat_eq x r then v else t.at x) ≡ (if nat_eq x r then w else u.at x)
-      put_at x a true h before v w eq is at = ap (λ b. if b then v else t.at x) at ∙ (eq ∙ sym (ap (λ b. if b then w else u.at x) at))
-      put_at x true false h before v w eq is at = ap (λ b. if b then v else t.at x) at ∙ (before is ∙ sym (ap (λ b. if b then w else u.at x) at))
-      put_at x false false h before v w eq is at = absurd (both_ways false refl h)
-
   -- the goal reads what is reached of the first and the last cycle
   module _ (q : Question) (asked : IsAsked m q) (first first' last last' : Cycle)
       (nets : (y : ℕ) → is_in (nets_of m q 0) y ≡ true → first.nets y ≡ first'.nets y)

@@ -1,27 +1,33 @@
 -- The literals that the leaves of a question give are those of the definition.
-use Rattle.std.proofs.Common.{◌≡◌, ℕ, suc, Bool, true, false, if◌then◌else◌, List, [], ◌∷◌, length}
-use Rattle.std.proofs.Common.{nat_eq, slice_get, slice_index_or, Option, None, Some, option_map, refl, sym, ◌∙◌, ap, subst}
+use Rattle.std.proofs.Common.{◌≡◌, ℕ, suc, ◌+◌, Bool, true, false, if◌then◌else◌, List, [], ◌∷◌, length}
+use Rattle.std.proofs.Common.{nat_eq, slice_get, slice_index_or, IsTrue, Option, None, Some, option_map, refl, sym, ◌∙◌, ap, subst, arith}
 use Rattle.std.specs.Option.{option_map_or}
 use Rattle.std.proofs.lemmas.Bool.{both_ways, eq-eqb, eqb-true, ltb-true}
 use Rattle.std.proofs.lemmas.Option.{none-some, same_Some, slice_get_within}
 use Rattle.cg_net.specs.NetSets.{is_in}
 use Rattle.cg_netlist.specs.Circuit.{data_inputs}
+use Rattle.cg_netlist.proofs.Filtered.{range_in, to_filter}
 use Rattle.cg_netlist.proofs.Given.{data_given, driver_within, given_driver}
 use Rattle.cg_machine.specs.Machine.{IsMachine, MachineData}
+use Rattle.cg_cell.specs.Domain.{AreValid, Seen}
+use Rattle.cg_aig.specs.Aig.{IsAig, aig_ops}
+use Rattle.cg_aig.specs.AigLaws.{is_lit_of}
 use Rattle.cg_claim.specs.Build.{aig_values}
 use Rattle.cg_claim.specs.Leaves.{is_source}
+use Rattle.cg_claim.specs.Reach.{registers_of}
 use Rattle.cg_claim.specs.declared.leaf.Leaf.{Leaf}
 use Rattle.cg_claim.specs.declared.leaf.LeafSource.{LeafSource}
 use Rattle.cg_claim.specs.declared.leaf.LeafSource.TheVariants.{Input, Register}
 use Rattle.cg_claim.specs.form.Build.{leaf_value}
 use Rattle.cg_claim.specs.form.Leaves.{leaf_place, same_leaf}
-use Rattle.cg_hint_laws.specs.Leaves.{leaves_of}
+use Rattle.cg_hint_laws.specs.Leaves.{is_leaf, leaves_of}
 use Rattle.cg_hint_laws.specs.Question.{Question}
 use Rattle.cg_unroll.specs.Laid.{HoldsInputs}
 use Rattle.cg_unroll.specs.Placing.{AgreesLeaves, ArePlaced, FillsLeaves, place_in, source_place}
+use Rattle.cg_unroll.specs.Sparse.{AreZero}
 use Rattle.cg_unroll.specs.declared.tables.Sources.{Sources}
 use Rattle.cg_unroll.specs.declared.tables.Sources.TheVariants.{Inputs, Registers}
-use Rattle.cg_unroll_cycles.proofs.CycleLeaves.{leaf, leaf_is, leaf_source, leaves_apart, place_of}
+use Rattle.cg_unroll_cycles.proofs.CycleLeaves.{leaf, leaf_is, leaf_passes, leaf_source, leaves_apart, place_of, registers_at}
 
 -- the place of a leaf shows it
 place_gives : (leaves : List Leaf) (l : Leaf) (k : ℕ) → leaf_place leaves l ≡ Some k → slice_get leaves k ≡ Some l
@@ -93,6 +99,18 @@ module _ (m : MachineData) (good : IsMachine m) (q : Question) where
   pub registers_placed : (i : ℕ) → ArePlaced (place_in i Registers) (leaves_of m q) (length m.circuit.registers)
   registers_placed i j y l at placed = ltb-true y (length m.circuit.registers) (there i Registers j y l at placed)
 
+  -- where no register of a cycle is a leaf, zeros are a table of them
+  pub none_fill : (i : ℕ) (values : List ℕ) → registers_at m q i ≡ [] → AreZero values → FillsLeaves (place_in i Registers) (leaves_of m q) (length (leaves_of m q)) values
+  none_fill i values none zero = record {
+    keeps = λ g agrees y is. zero y ∙ is;
+    fills = λ g agrees j y l early at placed.
+        let e : l ≡ leaf i (Register y) = placed_leaf i Registers l y placed in
+        let passes : is_leaf m q i (Register y) ≡ true = subst (λ (k : Leaf). is_leaf m q k.copy k.source ≡ true) e (leaf_passes m q j l at) in
+        let zero_y : 0 + y ≡ y = omega arith in
+        let among : is_in (registers_of m) y ≡ true = subst (λ k. is_in (registers_of m) k ≡ true) zero_y (range_in (length m.circuit.registers) 0 y (registers_placed i j y l at placed)) in
+        absurd (both_ways false refl (subst (λ rs. is_in rs y ≡ true) none (to_filter (λ r. is_leaf m q i (Register r)) (registers_of m) y among passes)));
+  }
+
   -- a net that is no data input is no leaf
   no_input : (i y : ℕ) → is_in (data_inputs m.circuit) y ≡ false → leaf_value aig_values (leaves_of m q) i (Input y) ≡ 0
   no_input i y out = go (leaf_place (leaves_of m q) (leaf i (Input y))) refl
@@ -108,3 +126,12 @@ module _ (m : MachineData) (good : IsMachine m) (q : Question) where
       go : (b : Bool) → is_in (data_inputs m.circuit) y ≡ b → leaf_value aig_values (leaves_of m q) i (Input y) ≡ (if b then leaf_value aig_values (leaves_of m q) i (Input y) else 0)
       go true e = refl
       go false e = no_input i y e
+
+-- zeros are literals of each list that has the constant
+pub zeros_valid : (s : Seen) (values : List ℕ) → IsTrue (aig_ops.is_valid s 0) → AreZero values → AreValid aig_ops s values
+zeros_valid s [] h zero = tt
+zeros_valid s (v ∷ values) h zero = (subst (λ a. IsTrue (aig_ops.is_valid s a)) (sym (zero 0)) h, zeros_valid s values h (λ x. zero (suc x)))
+
+-- the constant 0 is a literal of each list
+pub zero_valid : (s : Seen) → IsAig s → IsTrue (aig_ops.is_valid s 0)
+zero_valid s is = is_lit_of s 0 (record { node = omega arith; sound = is.sound })

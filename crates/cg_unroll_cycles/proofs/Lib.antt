@@ -1,4 +1,5 @@
 pub mod CycleLeaves
+pub mod CycleStates
 pub mod CyclesBuilt
 pub mod CyclesDone
 pub mod Joining

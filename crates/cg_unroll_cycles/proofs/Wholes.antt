@@ -1,23 +1,24 @@
 -- Each part of a question leaves a list that is no longer than the whole one.
-use Rattle.std.proofs.Common.{◌≡◌, ℕ, zero, suc, ◌+◌, ◌-◌, ◌≤◌, List, [], ◌∷◌, slice_get, Option, Some, None, subst, arith}
+use Rattle.std.proofs.Common.{◌≡◌, ℕ, zero, suc, ◌+◌, ◌-◌, ◌≤◌, Bool, true, false, if◌then◌else◌, List, [], ◌∷◌, slice_get, Option, Some, None, subst, arith}
 use Rattle.std.specs.List.{filter}
-use Rattle.cg_cell.specs.Build.{build_and, build_or, build_xor, chain}
+use Rattle.cg_cell.specs.Build.{build_and, build_or, build_xor, chain, plain}
 use Rattle.cg_cell.specs.Domain.{Seen}
 use Rattle.cg_cell.proofs.RunsGrow.{Grows, grows_and, grows_or, grows_plain, grows_then, grows_xor}
 use Rattle.cg_aig.specs.Aig.{aig_ops, inverse}
 use Rattle.cg_aig.proofs.RunsFit.{aig_growing}
 use Rattle.cg_machine.specs.Claims.{Literal}
-use Rattle.cg_machine.specs.Machine.{MachineData, enable_of}
+use Rattle.cg_machine.specs.Machine.{MachineData, enable_of, has_controls}
 use Rattle.cg_claim.specs.Build.{Table, aig_values, literal_of, next_run, put_run, reached_cells, size, start_nets}
 use Rattle.cg_claim.specs.Reach.{registers_of}
 use Rattle.cg_claim.specs.declared.leaf.LeafSource.TheVariants.{Input, Register}
 use Rattle.cg_claim.proofs.WholeLists.{lay_grows, next_of_grows, run_fits}
-use Rattle.cg_claim.specs.form.Build.{Cycle, and_run, condition_run, leaf_value, or_run, term_run}
+use Rattle.cg_claim.specs.form.Build.{Cycle, and_run, condition_run, lay_states, leaf_value, or_run, term_run}
 use Rattle.cg_hint_laws.specs.Build.{goal_of, goal_run, lay_next, next_states, question_run}
 use Rattle.cg_hint_laws.specs.Leaves.{leaves_of}
 use Rattle.cg_hint_laws.specs.Question.{Question}
 use Rattle.cg_hint_laws.specs.Reach.{nets_of, states_of}
 use Rattle.cg_unroll_cycles.specs.inner.Laid.{built_cycle}
+use Rattle.cg_unroll_cycles.proofs.CycleStates.{given_or_next}
 
 pub and_grows : (nets : ℕ → ℕ) (a : ℕ) (ls : List Literal) (s : Seen) → Grows aig_ops s (and_run aig_values nets a ls s)
 and_grows nets a [] s = grows_plain aig_ops aig_growing s a
@@ -67,6 +68,21 @@ module _ (m : MachineData) where
       let h = lay_next_grows c rs (put_run t r run) in
       omega (arith, g, h)
 
+  bit_grows : (given : ℕ → ℕ) (c : Cycle) (r : ℕ) (s : Seen) → Grows aig_ops s (given_or_next aig_values m given c r s)
+  bit_grows given c r s = go (has_controls m r)
+    where
+      go : (b : Bool) → Grows aig_ops s (if b then plain (given r) s else next_run aig_values m c.nets c.states r s)
+      go true = grows_plain aig_ops aig_growing s (given r)
+      go false = next_grows c.nets c.states r s
+
+  lay_bits_grows : (given : ℕ → ℕ) (c : Cycle) (rs : List ℕ) (t : Table) → size t.domain ≤ size (lay_states (given_or_next aig_values m given c) rs t).domain
+  lay_bits_grows given c [] t = omega arith
+  lay_bits_grows given c (r ∷ rs) t =
+      let run = given_or_next aig_values m given c r t.domain in
+      let g = run_fits t.domain run (bit_grows given c r t.domain) in
+      let h = lay_bits_grows given c rs (put_run t r run) in
+      omega (arith, g, h)
+
   module _ (q : Question) where
     pub goal_grows : (first last : Cycle) → Grows aig_ops last.domain (goal_run aig_values m q first last)
     goal_grows first last =
@@ -83,7 +99,8 @@ module _ (m : MachineData) where
       step_fits : (i : ℕ) → size (built_cycle m q s i).domain ≤ size (built_cycle m q s (suc i)).domain
       step_fits i =
           let c = built_cycle m q s i in
-          let g : size c.domain ≤ size (next_states aig_values m q (suc i) c).domain = lay_next_grows c (filter (states_of m q (suc i)) (registers_of m)) (record { domain = c.domain; at = λ r. 0 }) in
+          let g : size c.domain ≤ size (next_states aig_values m q (suc i) c).domain =
+          lay_bits_grows (λ r. leaf_value aig_values (leaves_of m q) (suc i) (Register r)) c (filter (states_of m q (suc i)) (registers_of m)) (record { domain = c.domain; at = λ r. 0 }) in
           let h = next_fits i in
           omega (arith, g, h)
 

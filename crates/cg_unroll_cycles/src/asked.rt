@@ -58,7 +58,7 @@ pub(crate) fn ask_back(
         return ask_goal(machine, question.register, asked);
     }
     let next = &behind[behind.len() - 1];
-    ask_next(machine, next.states.as_slice(), asked)
+    ask_next(machine, next.follows.as_slice(), asked)
 }
 
 /// Asks for the next bit of a register and for its bit, where there is one.

@@ -1,6 +1,6 @@
 //! The cycles of a claim, put into the list one after another.
 
-ghost use Rattle.std.specs.Prelude.{◌≡◌, ◌<◌, ◌+◌, ℕ, length, slice_index_or, IfErr, OnOk};
+ghost use Rattle.std.specs.Prelude.{◌≡◌, ◌<◌, ◌≤◌, ◌+◌, ℕ, length, slice_index_or, IfErr, OnOk};
 ghost use Rattle.std.specs.List.{All};
 ghost use Rattle.cg_aig.specs.Aig.{aig_ops};
 ghost use Rattle.cg_aig.specs.declared.fault.AigFault.TheVariants.{NoMemory};
@@ -9,7 +9,7 @@ ghost use Rattle.cg_claim.specs.Build.{aig_values};
 ghost use Rattle.cg_hint_laws.specs.Build.{lay_next};
 ghost use Rattle.cg_unroll.specs.Building.{MayFail, table_of};
 ghost use Rattle.cg_unroll.specs.Placing.{HoldsLeaves, IsCopy, IsLiteralTable, place_in};
-ghost use Rattle.cg_unroll.specs.declared.tables.Sources.TheVariants.{Inputs};
+ghost use Rattle.cg_unroll.specs.declared.tables.Sources.TheVariants.{Inputs, Registers};
 ghost use Rattle.cg_unroll_cycles.specs.inner.Laid.{HoldsCycle, IsUnrolling, LaysNext, asked_by, built_cycle, cycle_of};
 
 use crate::question::Question;
@@ -52,21 +52,9 @@ pub(crate) fn lay_first(
     let machine = unrolling.machine;
     let _netlist = machine.netlist();
     let zero = aig.constant(false);
-    let leaves = unrolling.reached.leaves.as_slice();
-    let places = machine.registers() as usize;
-    put_leaves(
-        leaves,
-        CopyLeaves {
-            copy: 0,
-            sources: Sources::Registers,
-        },
-        places,
-        zero,
-        aig,
-        &mut first.states,
-    )?;
-    put_inputs(unrolling, 0, zero, aig, &mut first.nets)?;
     let cycle = cycle_at(unrolling.reached.cycles.as_slice(), 0);
+    put_given(unrolling, 0, zero, aig, &mut first.states)?;
+    put_inputs(unrolling, 0, zero, aig, &mut first.nets)?;
     lay_copy(
         machine,
         &cycle.cone,
@@ -103,7 +91,42 @@ fn put_inputs(
     put_leaves(leaves, these, places, zero, aig, nets)
 }
 
-/// Puts into the list the cycle behind this one, which `before` has the literals of: the registers take their next bits.
+/// Puts the literals of the leaves that are registers of this cycle at their places, and the constant 0, which is `zero`, at
+/// all others.
+fn put_given(
+    unrolling: &Unrolling<'_>,
+    cycle: u8,
+    zero: AigLit,
+    aig: &Aig,
+    states: &mut Literals,
+) -> Result<(), AigFault>
+    requires unrolling { IsUnrolling unrolling.now }
+    requires cycle { cycle ≤ unrolling.now.question.now.after }
+    requires zero { zero ≡ 0 }
+    requires leaves { length unrolling.now.reached.now.leaves ≡ aig.now.number }
+    ensures held { OnOk result (HoldsLeaves (place_in cycle Registers) unrolling.now.reached.now.leaves
+        (length unrolling.now.machine.now.circuit.registers) aig.now states.new) }
+    ensures failed { IfErr result (λ fault. fault ≡ NoMemory) }
+{
+    let _netlist = unrolling.machine.netlist();
+    let _leaves = aig.leaves();
+    let leaves = unrolling.reached.leaves.as_slice();
+    let places = unrolling.machine.registers() as usize;
+    // In a machine without controls only the first cycle has any.
+    let reach = cycle_at(unrolling.reached.cycles.as_slice(), cycle as usize);
+    if reach.given.is_empty() {
+        states.reset(places, zero)?;
+        return Ok(());
+    }
+    let these = CopyLeaves {
+        copy: cycle,
+        sources: Sources::Registers,
+    };
+    put_leaves(leaves, these, places, zero, aig, states)
+}
+
+/// Puts into the list the cycle behind this one, which `before` has the literals of: the registers take their next bits,
+/// but for those with controls, which are leaves.
 pub(crate) fn lay_cycle(
     unrolling: &Unrolling<'_>,
     behind: u8,
@@ -129,10 +152,10 @@ pub(crate) fn lay_cycle(
     let zero = aig.constant(false);
     let cycle = cycle_at(unrolling.reached.cycles.as_slice(), behind as usize + 1);
     put_inputs(unrolling, behind + 1, zero, aig, &mut last.nets)?;
-    last.states.reset(machine.registers() as usize, zero)?;
+    put_given(unrolling, behind + 1, zero, aig, &mut last.states)?;
     put_next(
         machine,
-        cycle.states.as_slice(),
+        cycle.follows.as_slice(),
         before,
         aig,
         &mut last.states,

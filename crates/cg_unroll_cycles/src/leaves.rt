@@ -2,9 +2,8 @@
 
 ghost use Rattle.std.specs.Prelude.{◌≡◌, ◌<◌, ◌≤◌, ◌++◌, ◌+◌, length, IfOk, OnOk};
 ghost use Rattle.cg_hint_laws.specs.Leaves.{leaves_at, leaves_of};
-ghost use Rattle.cg_hint_laws.specs.Reach.{asked_of};
 ghost use Rattle.cg_unroll_cycles.specs.Asking.{AsksThere, question_of};
-ghost use Rattle.cg_unroll_cycles.specs.inner.Reached.{AreCycles, IsReachOf};
+ghost use Rattle.cg_unroll_cycles.specs.inner.Reached.{AreCycles, IsCycle};
 
 use crate::question::Question;
 use crate::reached::{CycleReach, cycle_at};
@@ -14,7 +13,7 @@ use cg_list::Seq;
 use cg_machine::machine::Machine;
 use std::alloc::{AllocError, Global};
 
-/// The leaves of a claim: the inputs of each cycle, and the registers of the first.
+/// The leaves of a claim: the inputs of each cycle, and behind them the registers whose bits are given there.
 pub(crate) fn leaves(
     alloc: Global,
     machine: &Machine,
@@ -25,24 +24,25 @@ pub(crate) fn leaves(
     ensures { IfOk result (λ leaves. leaves ≡ leaves_of machine.now (question_of question.now)) }
 {
     let mut leaves = Vec::new(alloc);
-    push_first(machine, question, cycle_at(cycles, 0), &mut leaves)?;
+    push_cycle(machine, question, 0, cycle_at(cycles, 0), &mut leaves)?;
     for before in 0..question.after {
         let cycle = cycle_at(cycles, before as usize + 1);
-        push_inputs(before + 1, cycle.cone.inputs.as_slice(), &mut leaves)?;
+        push_cycle(machine, question, before + 1, cycle, &mut leaves)?;
     }
     Ok(Seq::from_vec(leaves))
 }
 
-/// Puts the leaves of the first cycle behind the others: its inputs, and then its registers.
-fn push_first(
+/// Puts the leaves of a cycle behind the others: its inputs, and then the registers whose bits are given there.
+fn push_cycle(
     machine: &Machine,
     question: &Question<'_>,
-    first: &CycleReach,
+    number: u8,
+    cycle: &CycleReach,
     leaves: &mut Vec<Leaf>,
 ) -> Result<(), AllocError>
-    requires { IsReachOf machine.now (asked_of machine.now (question_of question.now) 0) first.now }
-    ensures { OnOk result (leaves.new.items ≡ leaves.old.items ++ leaves_at machine.now (question_of question.now) 0) }
+    requires { IsCycle machine.now (question_of question.now) number cycle.now }
+    ensures { OnOk result (leaves.new.items ≡ leaves.old.items ++ leaves_at machine.now (question_of question.now) number) }
 {
-    push_inputs(0, first.cone.inputs.as_slice(), leaves)?;
-    push_registers(0, first.states.as_slice(), leaves)
+    push_inputs(number, cycle.cone.inputs.as_slice(), leaves)?;
+    push_registers(number, cycle.given.as_slice(), leaves)
 }

@@ -3,8 +3,10 @@
 //! A condition, a number of cycles and a register come in, and go out as an and-inverter list with a goal, which is 1 at
 //! bits of its leaves exactly where the condition is 0 in the first cycle and the register changes its bit in the last.
 //! Without a register the goal is 1 exactly where the condition is 0. From cycle to cycle each register takes its next
-//! bit, so that only the first cycle has registers for leaves. What the goal reaches is found first, from the last cycle
-//! to the first; then the leaves are counted; and then the list is built, from the first cycle to the last.
+//! bit, but for those with controls, which may be forced in between and have any bits. So the leaves are the registers of
+//! the first cycle, those with controls of each later one, and the inputs of all cycles. What the goal reaches is found
+//! first, from the last cycle to the first; then the leaves are counted; and then the list is built, from the first cycle
+//! to the last.
 //!
 //! The modules:
 //!

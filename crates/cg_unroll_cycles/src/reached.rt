@@ -1,12 +1,13 @@
 //! What a claim reaches in each of its cycles, and its leaves.
 
-ghost use Rattle.std.specs.Prelude.{◌≡◌, ◌<◌, ◌-◌, ◌++◌, ℕ, true, Some, length, slice_get, IfOk};
+ghost use Rattle.std.specs.Prelude.{◌≡◌, ◌<◌, ◌-◌, ◌++◌, ℕ, true, not, Some, length, slice_get, IfOk};
 ghost use Rattle.std.specs.List.{All, filter, range_with_len};
 ghost use Rattle.cg_net.specs.NetSets.{is_in};
+ghost use Rattle.cg_machine.specs.Machine.{has_controls};
 ghost use Rattle.cg_claim.specs.form.Reach.{Asked as AskedOf};
 ghost use Rattle.cg_hint_laws.specs.Reach.{asked_back, asked_of};
 ghost use Rattle.cg_unroll_cycles.specs.Asking.{AsksThere, question_of};
-ghost use Rattle.cg_unroll_cycles.specs.inner.Reached.{AreBack, AreCycles, Asks, IsReachOf, IsReached, IsThere};
+ghost use Rattle.cg_unroll_cycles.specs.inner.Reached.{AreBack, AreCycles, Asks, IsFirst, IsLater, IsReached, IsThere};
 
 use crate::asked::{Asked, ask_back, push_condition};
 use crate::leaves::leaves;
@@ -27,8 +28,12 @@ pub(crate) struct CycleReach {
     /// The cone of the nets that are asked for.
     pub(crate) cone: Cone,
 
-    /// The registers whose bits are reached, in register order.
-    pub(crate) states: Seq<RegId>,
+    /// The registers whose bits are reached and are leaves, in register order: all in the first cycle, and those with
+    /// controls in a later one.
+    pub(crate) given: Seq<RegId>,
+
+    /// The registers whose bits are reached and follow from the cycle before, in register order.
+    pub(crate) follows: Seq<RegId>,
 }
 
 /// What a claim reaches.
@@ -114,12 +119,12 @@ impl CycleReacher {
     ) -> Result<CycleReach, AllocError>
         requires there { AsksThere machine.now (question_of question.now) }
         requires behind { AreBack machine.now (question_of question.now) behind.now }
-        ensures { IfOk result (IsReachOf machine.now (asked_back machine.now question.now.register (length behind.now))) }
+        ensures { IfOk result (IsLater machine.now (asked_back machine.now question.now.register (length behind.now))) }
     {
         let _netlist = machine.netlist();
         let mut asked = Asked::new(self.alloc);
         ask_back(machine, question, behind, &mut asked)?;
-        self.cycle(machine, asked)
+        self.later_cycle(machine, asked)
     }
 
     /// The first cycle, before these, the last of which is the one behind it.
@@ -132,25 +137,101 @@ impl CycleReacher {
         requires there { AsksThere machine.now (question_of question.now) }
         requires behind { AreBack machine.now (question_of question.now) behind.now }
         requires count { length behind.now ≡ question.now.after }
-        ensures { IfOk result (IsReachOf machine.now (asked_of machine.now (question_of question.now) 0)) }
+        ensures { IfOk result (IsFirst machine.now (asked_of machine.now (question_of question.now) 0)) }
     {
         let _netlist = machine.netlist();
         let mut asked = Asked::new(self.alloc);
         push_condition(question.terms, &mut asked.nets)?;
         ask_back(machine, question, behind, &mut asked)?;
-        self.cycle(machine, asked)
+        self.first_cycle(machine, asked)
     }
 
-    /// What is reached in a cycle of which this is asked.
-    fn cycle(&mut self, machine: &Machine, asked: Asked) -> Result<CycleReach, AllocError>
+    /// What is reached in the first cycle, of which this is asked: the bits of all registers are given.
+    fn first_cycle(&mut self, machine: &Machine, asked: Asked) -> Result<CycleReach, AllocError>
         requires { All (λ net. net < length machine.now.circuit.names) asked.nets.items }
-        ensures { IfOk result (λ cycle. (a : AskedOf) → Asks asked a → IsThere machine.now a → IsReachOf machine.now a cycle) }
+        ensures { IfOk result (λ cycle. (a : AskedOf) → Asks asked a → IsThere machine.now a → IsFirst machine.now a cycle) }
+    {
+        let _netlist = machine.netlist();
+        let cone = self.cones.find(machine, &asked.nets)?;
+        let given = states(self.alloc, &cone, asked.states)?;
+        let follows = Seq::new(self.alloc);
+        Ok(CycleReach {
+            cone,
+            given,
+            follows,
+        })
+    }
+
+    /// What is reached in a later cycle, of which this is asked: the bits of registers with controls are given.
+    fn later_cycle(&mut self, machine: &Machine, asked: Asked) -> Result<CycleReach, AllocError>
+        requires nets { All (λ net. net < length machine.now.circuit.names) asked.nets.items }
+        requires states { All (λ r. r < length machine.now.circuit.registers) asked.states.items }
+        ensures { IfOk result (λ cycle. (a : AskedOf) → Asks asked a → IsThere machine.now a → IsLater machine.now a cycle) }
     {
         let _netlist = machine.netlist();
         let cone = self.cones.find(machine, &asked.nets)?;
         let states = states(self.alloc, &cone, asked.states)?;
-        Ok(CycleReach { cone, states })
+        let (given, follows) = split(self.alloc, machine, states)?;
+        Ok(CycleReach {
+            cone,
+            given,
+            follows,
+        })
     }
+}
+
+/// Those of these registers that have controls, and the others, both in order. Where none has any, it takes no memory.
+fn split(
+    alloc: Global,
+    machine: &Machine,
+    registers: Seq<RegId>,
+) -> Result<(Seq<RegId>, Seq<RegId>), AllocError>
+    requires { All (λ r. r < length machine.now.circuit.registers) registers }
+    ensures given { IfOk result (λ both. both.0 ≡ filter (has_controls machine.now) registers) }
+    ensures follows { IfOk result (λ both. both.1 ≡ filter (λ r. not (has_controls machine.now r)) registers) }
+{
+    let given = with_controls(alloc, machine, registers.as_slice())?;
+    if given.is_empty() {
+        return Ok((given, registers));
+    }
+    let follows = without_controls(alloc, machine, registers.as_slice())?;
+    Ok((given, follows))
+}
+
+/// Those of these registers that have controls.
+fn with_controls(
+    alloc: Global,
+    machine: &Machine,
+    registers: &[RegId],
+) -> Result<Seq<RegId>, AllocError>
+    requires { All (λ r. r < length machine.now.circuit.registers) registers.now }
+    ensures { IfOk result (λ some. some ≡ filter (has_controls machine.now) registers.now) }
+{
+    let mut some = Seq::new(alloc);
+    for reg in registers {
+        if machine.has_controls(*reg) {
+            some.push(*reg)?;
+        }
+    }
+    Ok(some)
+}
+
+/// Those of these registers that have none.
+fn without_controls(
+    alloc: Global,
+    machine: &Machine,
+    registers: &[RegId],
+) -> Result<Seq<RegId>, AllocError>
+    requires { All (λ r. r < length machine.now.circuit.registers) registers.now }
+    ensures { IfOk result (λ some. some ≡ filter (λ r. not (has_controls machine.now r)) registers.now) }
+{
+    let mut some = Seq::new(alloc);
+    for reg in registers {
+        if !machine.has_controls(*reg) {
+            some.push(*reg)?;
+        }
+    }
+    Ok(some)
 }
 
 /// The registers of a cone and of these numbers, in register order.

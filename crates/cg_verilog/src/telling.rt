@@ -282,6 +282,7 @@ fn rise_one(builder: &mut Builder, clock: &Net<'_>, update: &Update<'_>) -> Resu
     builder.register(
         None,
         &[update.takes.bytes()],
+        &[],
         &[(update.net.bytes(), 0)],
         Some(clock.bytes()),
         3,

@@ -64,7 +64,7 @@ module _ (c : Circuit) (is : IsNetlist c) where
   pub register_nets : (k : ℕ) (register : RegisterCell ℕ ℕ) → slice_get c.registers k ≡ Some register → RegisterNets c register
   register_nets k register at =
       let nets = each_one (kept.RegisterNets (λ net. net < length c.names)) c.registers k register within.registers at in
-      record { inputs = each_index c register.inputs nets.inputs; outputs = each_index c (shown_nets register) nets.outputs; clock = nets.clock }
+      record { inputs = each_index c register.inputs nets.inputs; controls = each_index c register.controls nets.controls; outputs = each_index c (shown_nets register) nets.outputs; clock = nets.clock }
 
   pub register_fits : (k : ℕ) (register : RegisterCell ℕ ℕ) → slice_get c.registers k ≡ Some register → RegisterFits register
   register_fits k register at = each_one RegisterFits c.registers k register (by_recursion RegisterFits c.registers is.well_formed.fitting) at

@@ -57,7 +57,7 @@ items_updated r (Flop cell) = refl
 
 -- a plain register shows one net
 pub plain_shows : (r : Cell) → FitsKind Plain r → shown_nets r ≡ shown r ∷ []
-plain_shows r fits = go r.outputs fits.1
+plain_shows r fits = go r.outputs fits.2
   where
     go : (outputs : List (NetName × Bool)) → map (λ (o : NetName × Bool). o.1) outputs ≡ false ∷ [] → map (λ (o : NetName × Bool). o.0) outputs ≡ first (map (λ (o : NetName × Bool). o.0) outputs) ∷ []
     go [] is = absurd (cc)

@@ -8,7 +8,7 @@ use Rattle.std.specs.Str.{bytes_eq}
 use Rattle.std.proofs.lemmas.Slice.Eq.{bytes_eq-Decides}
 use Rattle.std.proofs.lemmas.List.{length-map, map-append}
 use Rattle.cg_cell.specs.Cell.{CellData}
-use Rattle.cg_cell.specs.Pins.{is_clock, is_data, is_enable, is_output, is_test}
+use Rattle.cg_cell.specs.Pins.{is_clock, is_control, is_data, is_enable, is_output, is_test}
 use Rattle.cg_cell.specs.declared.cell.CellKind.{CellKind}
 use Rattle.cg_cell.specs.declared.cell.CellKind.TheVariants.{Logic as LogicKind, Flop as FlopKind, Gater as GaterKind, Unusable}
 use Rattle.cg_limit.specs.declared.Limit.{Limit}
@@ -127,18 +127,19 @@ module _ (given : NetName → Option ℕ) where
   gater_same cell (Some (c ∷ [])) (Some (e ∷ [])) (Some ts) (Some (x ∷ [])) = refl
   gater_same cell (Some (c ∷ [])) (Some (e ∷ [])) (Some ts) (Some (x ∷ y ∷ xs)) = refl
 
-  flop_same : (cell : CellData) (ins clocks : RoleNets) (shown : List Shown) → flop_part cell ins clocks shown ≡ part_late (flop_part cell ins clocks shown)
-  flop_same cell None clocks shown = refl
-  flop_same cell (Some ins) None shown = refl
-  flop_same cell (Some ins) (Some []) shown = refl
-  flop_same cell (Some ins) (Some (c ∷ d ∷ cs)) shown = refl
-  flop_same cell (Some ins) (Some (c ∷ [])) [] = refl
-  flop_same cell (Some ins) (Some (c ∷ [])) (o ∷ os) = refl
+  flop_same : (cell : CellData) (ins controls clocks : RoleNets) (shown : List Shown) → flop_part cell ins controls clocks shown ≡ part_late (flop_part cell ins controls clocks shown)
+  flop_same cell None controls clocks shown = refl
+  flop_same cell (Some ins) None clocks shown = refl
+  flop_same cell (Some ins) (Some controls) None shown = refl
+  flop_same cell (Some ins) (Some controls) (Some []) shown = refl
+  flop_same cell (Some ins) (Some controls) (Some (c ∷ d ∷ cs)) shown = refl
+  flop_same cell (Some ins) (Some controls) (Some (c ∷ [])) [] = refl
+  flop_same cell (Some ins) (Some controls) (Some (c ∷ [])) (o ∷ os) = refl
 
   kind_same : (kind : CellKind) (cell : CellData) (nets : List (Option NetName)) → placed_part kind cell nets ≡ part_late (placed_part kind cell nets)
   kind_same LogicKind cell nets = logic_same cell (at_role is_data cell.pins nets) (at_role is_output cell.pins nets)
   kind_same GaterKind cell nets = gater_same cell (at_role is_clock cell.pins nets) (at_role is_enable cell.pins nets) (at_role is_test cell.pins nets) (at_role is_output cell.pins nets)
-  kind_same FlopKind cell nets = flop_same cell (at_role is_data cell.pins nets) (at_role is_clock cell.pins nets) (shown_at 0 cell.pins nets)
+  kind_same FlopKind cell nets = flop_same cell (at_role is_data cell.pins nets) (at_role is_control cell.pins nets) (at_role is_clock cell.pins nets) (shown_at 0 cell.pins nets)
   kind_same Unusable cell nets = refl
 
   abbrev placed_late : Result Part PlacedFault → Result Part PlacedFault

@@ -13,10 +13,10 @@ use Rattle.cg_net.specs.NetSets.{is_in}
 use Rattle.cg_net.proofs.Members.{is_in_cases, is_in_left, is_in_right, in_alone, All-from_members, All-member}
 use Rattle.cg_net.proofs.TableLemmas.{mapped_at}
 use Rattle.cg_netlist.specs.Circuit.{Circuit, LogicCell, RegisterCell, asked_nets, cell_nets, clock_nets, data_inputs, drivers, given_nets}
-use Rattle.cg_netlist.specs.Circuit.{gater_outputs, net_order, register_nets, used_nets}
-use Rattle.cg_netlist.specs.Moment.{bit, values_at}
+use Rattle.cg_netlist.specs.Circuit.{gater_outputs, net_order, read_nets, register_nets, shown_nets, used_nets}
+use Rattle.cg_netlist.specs.Moment.{bit, is_controlled, values_at}
 use Rattle.cg_netlist.specs.Netlist.{IsNetlist}
-use Rattle.cg_netlist.specs.WellFormed.{AreRanks, FitsKind, IsOver, IsWellFormed, RegisterFits}
+use Rattle.cg_netlist.specs.WellFormed.{AreControlRanks, AreRanks, FitsKind, IsOver, IsWellFormed, RegisterFits}
 use Rattle.cg_netlist.specs.declared.parts.LogicFunction.{LogicFunction}
 use Rattle.cg_netlist.specs.declared.parts.LogicFunction.TheVariants.{Cover, Cell}
 use Rattle.cg_netlist.specs.declared.parts.RegisterKind.{RegisterKind}
@@ -118,9 +118,9 @@ carried_kept : (nets : List ℕ) (rs : List (RegisterCell ℕ ℕ)) → AllByRec
 carried_kept nets [] all = tt
 carried_kept nets (r ∷ rs) all = (all.0, carried_kept nets rs all.1)
 
-taken_kept : (rs : List (RegisterCell ℕ ℕ)) → flat_map (λ (r : RegisterCell ℕ ℕ). r.inputs) (map kept rs) ≡ flat_map (λ (r : RegisterCell ℕ ℕ). r.inputs) rs
+taken_kept : (rs : List (RegisterCell ℕ ℕ)) → flat_map (λ (r : RegisterCell ℕ ℕ). read_nets r) (map kept rs) ≡ flat_map (λ (r : RegisterCell ℕ ℕ). read_nets r) rs
 taken_kept [] = refl
-taken_kept (r ∷ rs) = ap (λ l. r.inputs ++ l) (taken_kept rs)
+taken_kept (r ∷ rs) = ap (λ l. read_nets r ++ l) (taken_kept rs)
 
 kept_twice : (n : ℕ) → kept_init (kept_init n) ≡ kept_init n
 kept_twice n = go (n == 2) refl
@@ -177,7 +177,7 @@ module _ (c : Circuit) (good : IsWellFormed c) where
   asked = flat_map asked_nets c.gaters
 
   abbrev taken : List (RegisterCell ℕ ℕ) → List ℕ
-  taken rs = flat_map (λ (r : RegisterCell ℕ ℕ). r.inputs) rs
+  taken rs = flat_map (λ (r : RegisterCell ℕ ℕ). read_nets r) rs
 
   used_before : (x : ℕ) → is_in (used_nets d) x ≡ true → is_in (used_nets c) x ≡ true
   used_before x is = elim (is_in_cases (ins (map tidy c.cells) ++ asked ++ taken (map kept rs)) c.outputs x is) [
@@ -204,6 +204,28 @@ module _ (c : Circuit) (good : IsWellFormed c) where
             ranked.rising j k was_j.0 was_k.0 was_j.1 was_k.1 (inputs_kept nat_eq nat_decides was_k.0.inputs was_k.0.output was_k.0.function was_j.0.output here);
       }
 
+  forcing_kept : AreControlRanks c good.ranks good.control_ranks → AreControlRanks d good.ranks good.control_ranks
+  forcing_kept forcing =
+      record {
+        count = forcing.count ∙ sym (length-map rs kept);
+        after_cell = λ j k cell r at_j at_k reads.
+            let was_j = mapped_at tidy (slice_get c.cells j) cell (sym (slice_get-map tidy c.cells j) ∙ at_j) in
+            let was_k = mapped_at kept (slice_get rs k) r (sym (slice_get-map kept rs k) ∙ at_k) in
+            let out : (tidy was_j.0).output ≡ was_j.0.output = output_kept nat_eq nat_decides was_j.0.inputs was_j.0.output was_j.0.function in
+            forcing.after_cell j k was_j.0 was_k.0 was_j.1 was_k.1
+            (ap (is_in was_k.0.controls) (sym out) ∙ (ap (λ (d : LogicCell ℕ). is_in was_k.0.controls d.output) was_j.2 ∙ (ap (λ (q : RegisterCell ℕ ℕ). is_in q.controls cell.output) was_k.2 ∙ reads)));
+        before_cell = λ j k x r cell at_j at_k is shows reads.
+            let was_j = mapped_at kept (slice_get rs j) r (sym (slice_get-map kept rs j) ∙ at_j) in
+            let was_k = mapped_at tidy (slice_get c.cells k) cell (sym (slice_get-map tidy c.cells k) ∙ at_k) in
+            forcing.before_cell j k x was_j.0 was_k.0 was_j.1 was_k.1 (ap (λ (q : RegisterCell ℕ ℕ). is_controlled q.kind) was_j.2 ∙ is) (ap (λ (q : RegisterCell ℕ ℕ). is_in (shown_nets q) x) was_j.2 ∙ shows)
+            (inputs_kept nat_eq nat_decides was_k.0.inputs was_k.0.output was_k.0.function x (ap (λ (d : LogicCell ℕ). is_in d.inputs x) was_k.2 ∙ reads));
+        after_register = λ j k x driver r at_j at_k is shows reads.
+            let was_j = mapped_at kept (slice_get rs j) driver (sym (slice_get-map kept rs j) ∙ at_j) in
+            let was_k = mapped_at kept (slice_get rs k) r (sym (slice_get-map kept rs k) ∙ at_k) in
+            forcing.after_register j k x was_j.0 was_k.0 was_j.1 was_k.1 (ap (λ (q : RegisterCell ℕ ℕ). is_controlled q.kind) was_j.2 ∙ is) (ap (λ (q : RegisterCell ℕ ℕ). is_in (shown_nets q) x) was_j.2 ∙ shows)
+            (ap (λ (q : RegisterCell ℕ ℕ). is_in q.controls x) was_k.2 ∙ reads);
+      }
+
   pub kept_formed : IsWellFormed d
   kept_formed =
       record {
@@ -221,6 +243,8 @@ module _ (c : Circuit) (good : IsWellFormed c) where
         };
         ranks = good.ranks;
         ranked = ranks_kept good.ranked;
+        control_ranks = good.control_ranks;
+        forcing = forcing_kept good.forcing;
         numbers = good.numbers;
         chained = record { count = good.chained.count; chained = good.chained.chained };
         clocked = from_recursion (λ (r : RegisterCell ℕ ℕ). is_in (clock_nets c) r.clock ≡ true) (map kept rs) (carried_kept (clock_nets c) rs (by_recursion (λ (r : RegisterCell ℕ ℕ). is_in (clock_nets c) r.clock ≡ true) rs good.clocked));

@@ -1,13 +1,14 @@
 -- Each text is read as one thing, and no text as two.
 use Rattle.std.proofs.Common.{◌≡◌, ◌⊎◌, inl, inr, ℕ, ◌≤◌, nat_lt, Bool, true, false, if◌then◌else◌, IsTrue, List, [], ◌∷◌, map}
 use Rattle.std.proofs.Common.{length, Option, None, Some, Result, Ok, Err, refl, sym, ap, ◌∙◌, subst, arith}
-use Rattle.std.specs.Prelude.{◌||◌, count_by}
-use Rattle.std.specs.List.{AllByRecursion}
-use Rattle.std.specs.Option.{option_to_list}
+use Rattle.std.specs.Prelude.{◌||◌, ◌&&◌, not, is_some, count_by}
+use Rattle.std.specs.List.{AllByRecursion, range_with_len}
+use Rattle.std.specs.Option.{option_map_or, option_to_list}
 use Rattle.std.proofs.lemmas.Bool.{both_ways, cases_lt, le-ltb, lt-ltb}
-use Rattle.cg_cell.specs.Cell.{CellData, HasFlopPins, HasFunction, HasGaterPins, HasLogicPins, HasPins, IsCell, variables_of}
+use Rattle.cg_cell.specs.Cell.{CellData, HasFlopPins, HasFunction, HasGaterPins, HasLogicPins, HasPins, IsCell, IsControl, MayControl}
+use Rattle.cg_cell.specs.Cell.{ControlData, has_control, names_pin, names_some, reads_shared, variables_of}
 use Rattle.cg_cell.specs.Name.{are_distinct, has_no_equals, is_name}
-use Rattle.cg_cell.specs.Pins.{PinData, is_clock, is_data, is_enable, is_output, is_state, is_test}
+use Rattle.cg_cell.specs.Pins.{PinData, is_clock, is_control, is_data, is_enable, is_output, is_state, is_test}
 use Rattle.cg_cell.specs.Term.{Term, is_within}
 use Rattle.cg_cell.specs.declared.cell.CellKind.{CellKind}
 use Rattle.cg_cell.specs.declared.cell.CellKind.TheVariants.{Logic, Flop, Gater, Unusable}
@@ -74,7 +75,7 @@ pins_decide Logic pins =
 pins_decide Flop pins =
     through (λ is. record { clock = is.0; state = is.1.0; only = is.1.1 }) (λ (is : HasFlopPins pins). (is.clock, (is.state, is.only)))
     (both (exactly (count_by is_clock pins) 1) (both (at_most 1 (count_by is_state pins))
-    (each_decides (λ pin. IsTrue (is_data pin || is_clock pin || is_state pin)) (λ pin. true_decides (is_data pin || is_clock pin || is_state pin)) pins)))
+    (each_decides (λ pin. IsTrue (is_data pin || is_control pin || is_clock pin || is_state pin)) (λ pin. true_decides (is_data pin || is_control pin || is_clock pin || is_state pin)) pins)))
 pins_decide Gater pins =
     through (λ is. record { clock = is.0; enable = is.1.0; output = is.1.1.0; test = is.1.1.1.0; only = is.1.1.1.1 }) (λ (is : HasGaterPins pins). (is.clock, (is.enable, (is.output, (is.test, is.only)))))
     (both (exactly (count_by is_clock pins) 1) (both (exactly (count_by is_enable pins) 1) (both (exactly (count_by is_output pins) 1) (both (at_most (count_by is_test pins) 1)
@@ -91,13 +92,34 @@ function_decides Gater variables (Some function) = inr (λ none. none)
 function_decides Unusable variables None = inl tt
 function_decides Unusable variables (Some function) = inr (λ none. none)
 
+off_decides : (b : Bool) → Decides (b ≡ false)
+off_decides false = inl refl
+off_decides true = inr (λ is. both_ways true is refl)
+
+control_decides : (pins : ℕ) (control : ControlData) → Decides (IsControl pins control)
+control_decides pins control =
+    through (λ is. record { clear = is.0; preset = is.1.0; clear_reads = is.1.1.0; preset_reads = is.1.1.1.0; named = is.1.1.1.1.0; both = is.1.1.1.1.1 })
+    (λ (is : IsControl pins control). (is.clear, (is.preset, (is.clear_reads, (is.preset_reads, (is.named, is.both))))))
+    (both (true_decides (option_map_or (is_within pins) control.clear true)) (both (true_decides (option_map_or (is_within pins) control.preset true))
+    (both (true_decides (option_map_or (names_some pins) control.clear true)) (both (true_decides (option_map_or (names_some pins) control.preset true))
+    (both (each_decides (λ k. IsTrue (names_pin control k)) (λ k. true_decides (names_pin control k)) (range_with_len 0 pins))
+    (true_decides (not control.both || (is_some control.clear && is_some control.preset))))))))
+
+may_decide : (kind : CellKind) (control : ControlData) → Decides (MayControl kind control)
+may_decide Flop control = inl tt
+may_decide Logic control = off_decides (has_control control)
+may_decide Gater control = off_decides (has_control control)
+may_decide Unusable control = off_decides (has_control control)
+
 cell_decides : (cell : CellData) → Decides (IsCell cell)
 cell_decides cell =
-    through (λ is. record { named = is.0; pins_named = is.1.0; few = is.1.1.0; distinct = is.1.1.1.0; unsplit = is.1.1.1.1.0; roles = is.1.1.1.1.1.0; computes = is.1.1.1.1.1.1 })
-    (λ (is : IsCell cell). (is.named, (is.pins_named, (is.few, (is.distinct, (is.unsplit, (is.roles, is.computes)))))))
+    through (λ is. record { named = is.0; pins_named = is.1.0; few = is.1.1.0; distinct = is.1.1.1.0; unsplit = is.1.1.1.1.0; roles = is.1.1.1.1.1.0; computes = is.1.1.1.1.1.1.0; shared = is.1.1.1.1.1.1.1.0; controls = is.1.1.1.1.1.1.1.1.0; forces = is.1.1.1.1.1.1.1.1.1 })
+    (λ (is : IsCell cell). (is.named, (is.pins_named, (is.few, (is.distinct, (is.unsplit, (is.roles, (is.computes, (is.shared, (is.controls, is.forces))))))))))
     (both (true_decides (is_name cell.name)) (both (each_decides (λ pin. IsTrue (is_name pin.name)) (λ pin. true_decides (is_name pin.name)) cell.pins) (both (at_most (length cell.pins) 16)
     (both (true_decides (are_distinct (map (λ pin. pin.name) cell.pins))) (both (each_decides (λ pin. IsTrue (has_no_equals pin.name)) (λ pin. true_decides (has_no_equals pin.name)) cell.pins)
-    (both (pins_decide cell.kind cell.pins) (function_decides cell.kind (variables_of cell) cell.function)))))))
+    (both (pins_decide cell.kind cell.pins) (both (function_decides cell.kind (variables_of cell) cell.function)
+    (both (each_decides (λ k. IsTrue (reads_shared cell k)) (λ k. true_decides (reads_shared cell k)) (range_with_len 0 (length cell.pins)))
+    (both (control_decides (count_by is_control cell.pins) cell.control) (may_decide cell.kind cell.control))))))))))
 
 proper_decides : (library : List CellData) (clock : Option NetName) → Decides (AreProper library clock)
 proper_decides library clock =

@@ -11,6 +11,7 @@ use Rattle.cg_netlist_parts.specs.Faults.{EachNet, HasClock, IsClockProper, IsDr
 use Rattle.cg_netlist_parts.specs.Faults.{IsGaterProper, IsRootProper, ends_within, reaches}
 use Rattle.cg_netlist_parts.specs.Part.{Part, gaters, nets}
 use Rattle.cg_netlist_parts.specs.Said.{Said, said}
+use Rattle.cg_netlist.specs.Settling.{settling_cells}
 use Rattle.cg_netlist.specs.Wiring.{driven_by_cells, driven_by_gaters, driven_by_registers, used_by}
 use Rattle.cg_netlist.proofs.Each.{each}
 
@@ -36,7 +37,7 @@ module _ (parts others : List Part) (same : said parts ≡ said others) where
   driven net is = let P : Said → Type 0 = λ s. is_known (uses_by s) net ≡ true → is_known (drivers_by s) net ≡ true in subst P same is
 
   ending : (net : NetName) → IsEnding parts net → IsEnding others net
-  ending net is = let P : Said → Type 0 = λ s. (n : ℕ) × (ends_within s.cells n net ≡ true) in subst P same is
+  ending net is = let P : Said → Type 0 = λ s. (n : ℕ) × (ends_within (settling_cells s.cells s.registers) n net ≡ true) in subst P same is
 
   reaches_same : (n : ℕ) (net : NetName) → reaches parts n net ≡ reaches others n net
   reaches_same zero net = ap (λ s. is_known (roots_by s) net) same

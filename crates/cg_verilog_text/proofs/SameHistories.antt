@@ -6,8 +6,8 @@ use Rattle.std.proofs.lemmas.Slice.Zip.{AllZip-right}
 use Rattle.std.specs.Prelude.{MatchOption, IsSomeAnd}
 use Rattle.cg_netlist.specs.Circuit.{Circuit, GatingCell, LogicCell, RegisterCell, shown_nets}
 use Rattle.cg_netlist.specs.History.{LawfulFrom, Moment, MomentFollows, Tick, edges_from, gater_bit, latches_before}
-use Rattle.cg_netlist.specs.History.{next_bit, next_latch, rises, state_now}
-use Rattle.cg_netlist.specs.Moment.{Settles, register_bits, shown_bits, values_at, zip_with}
+use Rattle.cg_netlist.specs.History.{held_now, next_bit, next_latch, rises, state_now}
+use Rattle.cg_netlist.specs.Moment.{Settles, forced_bit, forced_state, register_bits, shown_bits, values_at, zip_with}
 use Rattle.cg_verilog_text.specs.Laws.{SameHistories}
 use Rattle.cg_verilog_text.specs.VEqual.{AreAlike, AreVEqual, kept}
 
@@ -46,6 +46,11 @@ state_kept before now [] state = refl
 state_kept before now (r ∷ rs) [] = refl
 state_kept before now (r ∷ rs) (b ∷ state) = ap (λ l. next_bit before now r b ∷ l) (state_kept before now rs state)
 
+forced_kept : (nets : List Bool) (rs : List (RegisterCell ℕ ℕ)) (held : List Bool) → zip_with (forced_bit nets) (map kept rs) held ≡ zip_with (forced_bit nets) rs held
+forced_kept nets [] held = refl
+forced_kept nets (r ∷ rs) [] = refl
+forced_kept nets (r ∷ rs) (b ∷ held) = ap (λ l. forced_bit nets r b ∷ l) (forced_kept nets rs held)
+
 bits_kept : (rs : List (RegisterCell ℕ ℕ)) (state : List Bool) → register_bits (map kept rs) state ≡ register_bits rs state
 bits_kept [] state = refl
 bits_kept (r ∷ rs) [] = refl
@@ -74,9 +79,15 @@ module _ (c d : Circuit) (e : AreVEqual c d) where
   states : (before now : List Bool) (state : List Bool) → zip_with (next_bit before now) c.registers state ≡ zip_with (next_bit before now) d.registers state
   states before now state = sym (state_kept before now c.registers state) ∙ (ap (λ rs. zip_with (next_bit before now) rs state) e.registers ∙ state_kept before now d.registers state)
 
+  held_at : (start : List Bool) (before : Option Moment) (nets : List Bool) → held_now c start before nets ≡ held_now d start before nets
+  held_at start None nets = refl
+  held_at start (Some p) nets = states p.nets nets p.state
+
+  forced_same : (nets held : List Bool) → forced_state c nets held ≡ forced_state d nets held
+  forced_same nets held = sym (forced_kept nets c.registers held) ∙ (ap (λ rs. zip_with (forced_bit nets) rs held) e.registers ∙ forced_kept nets d.registers held)
+
   state_at : (start : List Bool) (before : Option Moment) (nets : List Bool) → state_now c start before nets ≡ state_now d start before nets
-  state_at start None nets = refl
-  state_at start (Some p) nets = states p.nets nets p.state
+  state_at start before nets = ap (forced_state c nets) (held_at start before nets) ∙ forced_same nets (held_now d start before nets)
 
   latches_at : (before : Option Moment) (nets : List Bool) → zip_with (next_latch nets) c.gaters (latches_before c before) ≡ zip_with (next_latch nets) d.gaters (latches_before d before)
   latches_at None nets = ap (λ (gs : List (GatingCell ℕ)). zip_with (next_latch nets) gs (replicate (length gs) false)) e.gaters

@@ -11,7 +11,7 @@ use Rattle.std.proofs.lemmas.Slice.Eq.{bytes_eq-Decides}
 use Rattle.cg_cell.specs.Cell.{CellData, IsCell}
 use Rattle.cg_cell.specs.Cover.{CoverData}
 use Rattle.cg_cell.specs.Name.{are_distinct, is_name}
-use Rattle.cg_cell.specs.Pins.{PinData, is_clock, is_data, is_enable, is_output, is_test}
+use Rattle.cg_cell.specs.Pins.{PinData, is_clock, is_control, is_data, is_enable, is_output, is_test}
 use Rattle.cg_cell.specs.declared.cell.CellKind.{CellKind}
 use Rattle.cg_cell.specs.declared.cell.CellKind.TheVariants.{Logic as LogicKind, Flop as FlopKind, Gater as GaterKind, Unusable}
 use Rattle.cg_limit.specs.declared.Limit.TheVariants.{CoverInputs}
@@ -154,12 +154,13 @@ gater_none cell None enables tests outs p out is = cc
 gater_none cell (Some []) enables tests outs p out is = cc
 gater_none cell (Some (x ∷ xs)) enables tests outs p out is = out x xs refl
 
-flop_none : (cell : CellData) (ins clocks : Nets) (p : Part) → flop_part cell ins clocks [] ≡ Some p → ⊥
-flop_none cell None clocks p is = cc
-flop_none cell (Some ins) None p is = cc
-flop_none cell (Some ins) (Some []) p is = cc
-flop_none cell (Some ins) (Some (x ∷ [])) p is = cc
-flop_none cell (Some ins) (Some (x ∷ y ∷ xs)) p is = cc
+flop_none : (cell : CellData) (ins controls clocks : Nets) (p : Part) → flop_part cell ins controls clocks [] ≡ Some p → ⊥
+flop_none cell None controls clocks p is = cc
+flop_none cell (Some ins) None clocks p is = cc
+flop_none cell (Some ins) (Some controls) None p is = cc
+flop_none cell (Some ins) (Some controls) (Some []) p is = cc
+flop_none cell (Some ins) (Some controls) (Some (x ∷ [])) p is = cc
+flop_none cell (Some ins) (Some controls) (Some (x ∷ y ∷ xs)) p is = cc
 
 part_is : (o : Option Part) (p : Part) → part_or o ≡ Ok p → o ≡ Some p
 part_is None p is = absurd (cc)
@@ -170,8 +171,8 @@ kind_none LogicKind cell p is = logic_none cell (at_role is_data cell.pins (nets
 kind_none GaterKind cell p is =
     gater_none cell (at_role is_clock cell.pins (nets_at cell.pins [])) (at_role is_enable cell.pins (nets_at cell.pins [])) (at_role is_test cell.pins (nets_at cell.pins [])) (at_role is_output cell.pins (nets_at cell.pins [])) p (no_nets is_clock cell.pins) is
 kind_none FlopKind cell p is =
-    flop_none cell (at_role is_data cell.pins (nets_at cell.pins [])) (at_role is_clock cell.pins (nets_at cell.pins [])) p
-    (ap (flop_part cell (at_role is_data cell.pins (nets_at cell.pins [])) (at_role is_clock cell.pins (nets_at cell.pins []))) (sym (none_shown 0 cell.pins)) ∙ is)
+    flop_none cell (at_role is_data cell.pins (nets_at cell.pins [])) (at_role is_control cell.pins (nets_at cell.pins [])) (at_role is_clock cell.pins (nets_at cell.pins [])) p
+    (ap (flop_part cell (at_role is_data cell.pins (nets_at cell.pins [])) (at_role is_control cell.pins (nets_at cell.pins [])) (at_role is_clock cell.pins (nets_at cell.pins []))) (sym (none_shown 0 cell.pins)) ∙ is)
 kind_none Unusable cell p is = cc
 
 none_placed : (cell : CellData) (p : Part) → placed_at cell [] ≡ Ok p → ⊥

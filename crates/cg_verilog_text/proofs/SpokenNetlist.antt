@@ -9,7 +9,7 @@ use Rattle.std.proofs.lemmas.List.{append-nil}
 use Rattle.std.proofs.lemmas.List.Concat.{flat_map-append}
 use Rattle.cg_cell.specs.Cell.{CellData}
 use Rattle.cg_net.specs.Names.{NetName, is_known}
-use Rattle.cg_netlist.specs.Circuit.{GatingCell, LogicCell, RegisterCell, shown_nets}
+use Rattle.cg_netlist.specs.Circuit.{GatingCell, LogicCell, RegisterCell, read_nets, shown_nets}
 use Rattle.cg_netlist.specs.WellFormed.{FitsKind, IsOver}
 use Rattle.cg_netlist.specs.Wiring.{Wiring}
 use Rattle.cg_netlist.specs.declared.parts.LogicFunction.{LogicFunction}
@@ -101,7 +101,7 @@ module _ (library : List CellData) (inits : List Init) where
 
   -- registers
   abbrev clocked : Cell → RegisterCell NetName (Option NetName)
-  clocked r = record { inputs = r.inputs; outputs = r.outputs; pins = r.pins; clock = Some r.clock; kind = r.kind; init = r.init }
+  clocked r = record { inputs = r.inputs; controls = r.controls; outputs = r.outputs; pins = r.pins; clock = Some r.clock; kind = r.kind; init = r.init }
 
   -- what is known of a register
   pub record RegisterIs (r : Cell) : Type 0 where
@@ -110,13 +110,13 @@ module _ (library : List CellData) (inits : List Init) where
     pub init : IsItsInit inits r
 
   inputs_named : (r : Cell) → RegisterIs r → AllByRecursion IsNamed r.inputs
-  inputs_named r k = each_front IsNamed r.inputs (shown_nets r) (each_front IsNamed (r.inputs ++ shown_nets r) (r.clock ∷ []) k.part.named)
+  inputs_named r k = each_front IsNamed r.inputs r.controls (each_front IsNamed (read_nets r) (shown_nets r) (each_front IsNamed (read_nets r ++ shown_nets r) (r.clock ∷ []) k.part.named))
 
   outputs_named : (r : Cell) → RegisterIs r → AllByRecursion IsNamed (shown_nets r)
-  outputs_named r k = each_back IsNamed r.inputs (shown_nets r) (each_front IsNamed (r.inputs ++ shown_nets r) (r.clock ∷ []) k.part.named)
+  outputs_named r k = each_back IsNamed (read_nets r) (shown_nets r) (each_front IsNamed (read_nets r ++ shown_nets r) (r.clock ∷ []) k.part.named)
 
   clock_named : (r : Cell) → RegisterIs r → IsNamed r.clock
-  clock_named r k = (each_back IsNamed (r.inputs ++ shown_nets r) (r.clock ∷ []) k.part.named).0
+  clock_named r k = (each_back IsNamed (read_nets r ++ shown_nets r) (r.clock ∷ []) k.part.named).0
 
   one_input : (ins : List NetName) → length ins ≡ 1 → first ins ∷ [] ≡ ins
   one_input [] one = absurd (omega (arith, one))
@@ -131,11 +131,12 @@ module _ (library : List CellData) (inits : List Init) where
   part_same : (r : Cell) → r.kind ≡ Plain → FitsKind Plain (clocked r) → init_of inits (shown r) ≡ kept_init r.init
       → Register (plain_register r.clock (shown r) (first r.inputs) (init_of inits (shown r))) ≡ register_part leaves (kept r)
   part_same r plain fits init =
-      ap (λ x. Register (record { inputs = x; outputs = (shown r, false) ∷ []; pins = 0 ∷ []; clock = Some r.clock; kind = Plain; init = init_of inits (shown r) })) (one_input r.inputs fits.0)
-      ∙ (ap (λ x. Register (record { inputs = r.inputs; outputs = x; pins = 0 ∷ []; clock = Some r.clock; kind = Plain; init = init_of inits (shown r) })) (one_output r.outputs fits.1)
-      ∙ (ap (λ x. Register (record { inputs = r.inputs; outputs = r.outputs; pins = x; clock = Some r.clock; kind = Plain; init = init_of inits (shown r) })) (sym fits.2)
-      ∙ (ap (λ x. Register (record { inputs = r.inputs; outputs = r.outputs; pins = r.pins; clock = Some r.clock; kind = x; init = init_of inits (shown r) })) (sym plain)
-      ∙ ap (λ x. Register (record { inputs = r.inputs; outputs = r.outputs; pins = r.pins; clock = Some r.clock; kind = r.kind; init = x })) init)))
+      ap (λ x. Register (record { inputs = x; controls = []; outputs = (shown r, false) ∷ []; pins = 0 ∷ []; clock = Some r.clock; kind = Plain; init = init_of inits (shown r) })) (one_input r.inputs fits.0)
+      ∙ (ap (λ x. Register (record { inputs = r.inputs; controls = x; outputs = (shown r, false) ∷ []; pins = 0 ∷ []; clock = Some r.clock; kind = Plain; init = init_of inits (shown r) })) (sym fits.1)
+      ∙ (ap (λ x. Register (record { inputs = r.inputs; controls = r.controls; outputs = x; pins = 0 ∷ []; clock = Some r.clock; kind = Plain; init = init_of inits (shown r) })) (one_output r.outputs fits.2)
+      ∙ (ap (λ x. Register (record { inputs = r.inputs; controls = r.controls; outputs = r.outputs; pins = x; clock = Some r.clock; kind = Plain; init = init_of inits (shown r) })) (sym fits.3)
+      ∙ (ap (λ x. Register (record { inputs = r.inputs; controls = r.controls; outputs = r.outputs; pins = r.pins; clock = Some r.clock; kind = x; init = init_of inits (shown r) })) (sym plain)
+      ∙ ap (λ x. Register (record { inputs = r.inputs; controls = r.controls; outputs = r.outputs; pins = r.pins; clock = Some r.clock; kind = r.kind; init = x })) init))))
 
   init_speaks : (net : NetName) (init : ℕ) → IsNamed net → SpeakAll (init_items net init) []
   init_speaks net init named = go (nat_lt init 2)
@@ -145,7 +146,7 @@ module _ (library : List CellData) (inits : List Init) where
       go false = speak_none
 
   kept_three : (r : Cell) → r.init ≡ 3 → Register (clocked r) ≡ register_part leaves (kept r)
-  kept_three r three = ap (λ n. Register (record { inputs = r.inputs; outputs = r.outputs; pins = r.pins; clock = Some r.clock; kind = r.kind; init = n })) (three ∙ sym (ap kept_init three))
+  kept_three r three = ap (λ n. Register (record { inputs = r.inputs; controls = r.controls; outputs = r.outputs; pins = r.pins; clock = Some r.clock; kind = r.kind; init = n })) (three ∙ sym (ap kept_init three))
 
   kind_speaks : (r : Cell) (kind : RegisterKind) → r.kind ≡ kind → RegisterIs r → FitsKind kind (clocked r) → KindIsOf library r.init kind → SpeakAll (kind_items r kind) (register_part leaves (kept r) ∷ [])
   kind_speaks r Plain e k fits of =

@@ -195,7 +195,7 @@ module _ (library : List CellData) (cells : AllByRecursion IsCell library) where
   registers_are inits clock (u ∷ us) named all =
       let rest = registers_are inits clock us named all.1 in
       record {
-        each = (record { named = (all.0.1, (all.0.0, (named, tt))); fits = record { kind = (refl, refl, refl); pins = refl; init = init_few inits u.net } }, rest.each);
+        each = (record { named = (all.0.1, (all.0.0, (named, tt))); fits = record { kind = (refl, refl, refl, refl); pins = refl; init = init_few inits u.net } }, rest.each);
         placeable = (tt, rest.placeable);
       }
 

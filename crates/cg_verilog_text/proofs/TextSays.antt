@@ -186,7 +186,7 @@ module _ (library : List CellData) (c : Circuit) (is : IsPlaceable library c) wh
   register_parts : AllByRecursion (λ r. IsPart (register_part leaves r)) w.registers
   register_parts = of_kind (register_part leaves) IsPart w.registers (each_back IsPart a5 (p6 leaves w) taken.each)
 
-  fits_of : (r : Cell) (kind : RegisterKind) → FitsKind {N = NetName} {K = Option NetName} kind (record { inputs = r.inputs; outputs = r.outputs; pins = r.pins; clock = Some r.clock; kind = r.kind; init = r.init }) → FitsKind kind r
+  fits_of : (r : Cell) (kind : RegisterKind) → FitsKind {N = NetName} {K = Option NetName} kind (record { inputs = r.inputs; controls = r.controls; outputs = r.outputs; pins = r.pins; clock = Some r.clock; kind = r.kind; init = r.init }) → FitsKind kind r
   fits_of r Plain fits = fits
   fits_of r (Flop cell) fits = fits
 

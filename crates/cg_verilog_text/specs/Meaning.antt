@@ -93,7 +93,7 @@ init_of inits net = option_map_or (λ init. bit_number init.value) (find (λ ini
 -- a plain register
 abbrev pub plain_register : NetName → NetName → NetName → ℕ → RegisterCell NetName (Option NetName)
 plain_register clock output input init =
-    record { inputs = input ∷ []; outputs = (output, false) ∷ []; pins = 0 ∷ []; clock = Some clock; kind = Plain; init = init }
+    record { inputs = input ∷ []; controls = []; outputs = (output, false) ∷ []; pins = 0 ∷ []; clock = Some clock; kind = Plain; init = init }
 
 abbrev pub register_of : List Init → NetName → Update → Part
 register_of inits clock update = Register (plain_register clock update.net update.takes (init_of inits update.net))

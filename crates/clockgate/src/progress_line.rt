@@ -57,6 +57,9 @@ impl<R: Clock + Eprint> ProgressLine<R> {
 }
 
 impl<R: Clock + Eprint> Progress for ProgressLine<R> {
+    // It keeps no list of what it was told.
+    ghost heard = { λ line told. Unit {0} };
+
     fn looking(&mut self, register: usize, registers: usize) {
         self.show("register", register, registers);
     }

@@ -20,10 +20,12 @@
 //!   What it complains goes to standard output too.
 //! - Any other line is a command line. A file of the folder that it names is brought into memory first, unless it is there.
 //!
-//! A command line may name two watchers beside those of the program, `highs` and `few`.
+//! A command line may name two watchers beside those of the program, `highs` and `few`. The script fails where a command line is told of
+//! progress out of order.
 #![tactic(auto)]
 
 mod failed;
+mod hearing;
 mod highs;
 mod long;
 mod player;

@@ -2,10 +2,10 @@
 
 use crate::MOST_BYTES;
 use crate::failed::Failed;
+use crate::hearing::Hearing;
 use crate::highs::Highs;
 use crate::long::{cells, latches, nets};
 use crate::solver::{Answer, solved};
-use cg_plan::progress::Silent;
 use cg_report::clock_count::ClockCount;
 use cg_report::edge_count::EdgeCount;
 use cg_report::toggle_count::ToggleCount;
@@ -408,7 +408,7 @@ fn play_case<S: Shelf>(
 }
 
 /// Runs the program on words over a shelf.
-fn run_over<S: Shelf>(alloc: Global, shelf: &mut S, words: &[&str]) -> Result<Status, AllocError> {
+fn run_over<S: Shelf>(alloc: Global, shelf: &mut S, words: &[&str]) -> Result<Status, Failed> {
     let mut all = Vec::new(alloc);
     put_words(alloc, &mut all, words)?;
     run_words(alloc, shelf, all.as_slice())
@@ -423,12 +423,9 @@ fn put_words(alloc: Global, all: &mut Vec<String>, words: &[&str]) -> Result<(),
     Ok(())
 }
 
-/// Runs the program on a command line with its four watchers, and one of a kind of its own.
-fn run_words<S: Shelf>(
-    alloc: Global,
-    shelf: &mut S,
-    words: &[String],
-) -> Result<Status, AllocError> {
+/// Runs the program on a command line with its four watchers, and one of a kind of its own. It fails where what is told of progress
+/// is not what it may be told.
+fn run_words<S: Shelf>(alloc: Global, shelf: &mut S, words: &[String]) -> Result<Status, Failed> {
     let mut watchers = Vec::new(alloc);
     let edges: Box<dyn Watcher> = Box::new(alloc, EdgeCount::new())?;
     watchers.push(edges)?;
@@ -440,7 +437,32 @@ fn run_words<S: Shelf>(
     watchers.push(dump)?;
     let own: Box<dyn Watcher> = Box::new(alloc, own_watcher(words))?;
     watchers.push(own)?;
-    Ok(run(alloc, words, shelf, watchers, &mut Silent))
+    let mut hearing = Hearing::new();
+    let status = run(alloc, words, shelf, watchers, &mut hearing);
+    if is_told(&hearing, plans(words), status) {
+        Ok(status)
+    } else {
+        Err(Failed)
+    }
+}
+
+/// Whether what a run told is what it may tell: a finished plan a whole course, any other at most one, and other modes nothing.
+fn is_told(hearing: &Hearing, plans: bool, status: Status) -> bool {
+    if !plans {
+        return hearing.is_silent();
+    }
+    if status == Status::Done {
+        return hearing.is_whole();
+    }
+    hearing.is_course() || hearing.is_silent()
+}
+
+/// Whether the words ask for a mode that makes a plan.
+fn plans(words: &[String]) -> bool {
+    match words.get(1) {
+        Some(mode) => mode.as_str() == "gate" || mode.as_str() == "demo",
+        None => false,
+    }
 }
 
 /// The watcher with the name `few` where the words have it, and else the one with the name `highs`.

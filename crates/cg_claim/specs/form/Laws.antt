@@ -76,8 +76,8 @@ pub record AreForms (m : MachineData) : Type 0 where
   pub idle : (E : List Literal) → IsSame m (idle_question E) (idle_form E)
   pub hold : (e : Literal) (r : ℕ) → IsSame m (hold_question e r) (hold_form (e ∷ []) r)
   pub held : (r : ℕ) → IsSame m (held_question r) (hold_form [] r)
-  pub stable : (E : List Literal) (r : ℕ) → IsSame m (stable_question E r) (stable_form E r)
-  pub unseen : (E : List Literal) (Q G : List ℕ) (t : Target) → IsSame m (unseen_question E Q G t) (unseen_form E Q G t)
+  pub stable : (E : List Literal) (r : ℕ) → IsSame m (stable_question E r) (stable_form m E r)
+  pub unseen : (E : List Literal) (Q G : List ℕ) (t : Target) → IsSame m (unseen_question E Q G t) (unseen_form m E Q G t)
 
 abbrev pub StageClaimsAreForms : Type 0
 StageClaimsAreForms = (m : MachineData) → AreForms m

@@ -7,7 +7,8 @@ use Rattle.std.specs.Option.{option_map_or, option_or, option_to_list}
 use Rattle.cg_netlist.specs.Circuit.{Circuit, GatingCell, LogicCell, RegisterCell, asked_nets, shown_nets}
 use Rattle.cg_net.specs.NetSets.{is_in}
 use Rattle.cg_netlist.specs.Places.{CellWithin}
-use Rattle.cg_netlist.specs.Ranks.{driving_cell, rank_of, rank_within}
+use Rattle.cg_netlist.specs.Ranks.{is_unranked, rank_within}
+use Rattle.cg_netlist.specs.Settling.{settling_cells}
 use Rattle.cg_netlist_builder.specs.Inits.{with_init}
 use Rattle.cg_netlist_parts.specs.Said.{Said}
 use Rattle.cg_net.specs.Names.{NetName, net_name}
@@ -47,6 +48,7 @@ pub record GaterWithin (m : ℕ) (gater : GatingCell ℕ) : Type 0 where
 
 pub record OpenWithin (m : ℕ) (r : RegisterCell ℕ (Option ℕ)) : Type 0 where
   pub inputs : AllByRecursion (λ net. net < m) r.inputs
+  pub controls : AllByRecursion (λ net. net < m) r.controls
   pub outputs : AllByRecursion (λ net. net < m) (shown_nets r)
   pub clock : AllByRecursion (λ net. net < m) (option_to_list r.clock)
 
@@ -104,9 +106,12 @@ is_driven_twice n net = nat_lt 1 (count_by (nat_eq net) (driving n))
 abbrev pub is_undriven : Numbers → ℕ → Bool
 is_undriven n net = is_in (used n) net && not (is_in (driving n) net)
 
--- a net is the output of a logic cell in whose cone there is a cycle
+-- what settles within a moment, and whether a net follows so from a cycle
+abbrev pub settling : Numbers → List (LogicCell ℕ)
+settling n = settling_cells n.cells n.registers
+
 abbrev pub is_behind_cycle : Numbers → ℕ → Bool
-is_behind_cycle n net = option_map_or (λ k. is_none (rank_of n.cells k)) (driving_cell n.cells net) false
+is_behind_cycle n net = is_unranked (settling n) net
 
 -- a place where the clock may come from is neither input nor declared, or comes behind another such place, or is used for its bit
 abbrev pub is_bad_root : Numbers → ℕ → Bool
@@ -129,6 +134,7 @@ abbrev pub on_number : Option ℕ → RegisterCell ℕ (Option ℕ) → Register
 on_number clock r =
     record {
       inputs = r.inputs;
+      controls = r.controls;
       outputs = r.outputs;
       pins = r.pins;
       clock = unwrap_or (option_or r.clock clock) 0;

@@ -14,5 +14,6 @@ pub record CellAmong (n : ℕ) (cell : LogicCell ℕ) : Type 0 where
 
 pub record RegisterAmong (n : ℕ) (register : RegisterCell ℕ ℕ) : Type 0 where
   pub inputs : All (λ net. net < n) register.inputs
+  pub controls : All (λ net. net < n) register.controls
   pub outputs : All (λ net. net < n) (shown_nets register)
   pub clock : register.clock < n

@@ -18,8 +18,8 @@ gater_said w = gater_of w.cell.now w.clock.now w.enable.now (option_copied w.tes
 
 abbrev pub register_said : RegisterWords → RegisterCell NetName (Option NetName)
 register_said w =
-    register_of (option_copied w.cell) (map (λ name. name.now) w.inputs.now) (map (λ output. (output.0.now, output.1)) w.outputs.now)
-    (option_copied w.clock) w.init
+    register_of (option_copied w.cell) (map (λ name. name.now) w.inputs.now) (map (λ name. name.now) w.controls.now)
+    (map (λ output. (output.0.now, output.1)) w.outputs.now) (option_copied w.clock) w.init
 
 abbrev pub part_said : PartWords → Part
 part_said (InputWord net) = Input net.now

@@ -1,13 +1,13 @@
 -- The nets at pins, as they are looked up.
-use Rattle.std.specs.Prelude.{ℕ, Bool, List, map, Option, Result, Ok, Err, ◌≡◌, None, Some}
+use Rattle.std.specs.Prelude.{ℕ, Bool, ◌&&◌, List, map, Option, Result, Ok, Err, ◌≡◌, None, Some}
 use Rattle.std.specs.List.{list_any}
 use Rattle.std.specs.Option.{option_map}
 use Rattle.std.specs.Borrow.{Bor}
 use Rattle.std.specs.Str.{bytes_eq}
 use Rattle.std.specs.declared.vec.Vec.{Vec}
-use Rattle.cg_cell.specs.Pins.{PinData, is_clock, is_data, is_enable, is_output, is_state, is_test}
+use Rattle.cg_cell.specs.Pins.{PinData, is_clock, is_control, is_data, is_enable, is_output, is_state, is_test}
 use Rattle.cg_cell.specs.declared.cell.Role.{Role}
-use Rattle.cg_cell.specs.declared.cell.Role.TheVariants.{Data, Clock, Enable, Test, Output, State, StateBar}
+use Rattle.cg_cell.specs.declared.cell.Role.TheVariants.{Data, Control, DataControl, Clock, Enable, Test, Output, State, StateBar}
 use Rattle.cg_net.specs.Names.{NetName}
 use Rattle.cg_netlist_placed.specs.PinNets.{PinNet}
 use Rattle.cg_netlist_placed.specs.Placed.{Shown}
@@ -20,6 +20,8 @@ use Rattle.cg_netlist_placed.specs.declared.fault.Refusal.TheVariants.{Added, Pl
 -- whether a pin is of a role; the two roles of a register's outputs are one here
 abbrev pub has_role : Role → PinData → Bool
 has_role Data = is_data
+has_role Control = is_control
+has_role DataControl = λ pin. is_data pin && is_control pin
 has_role Clock = is_clock
 has_role Enable = is_enable
 has_role Test = is_test

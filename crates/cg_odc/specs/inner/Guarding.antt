@@ -5,6 +5,7 @@ use Rattle.std.specs.List.{list_any, range_with_len}
 use Rattle.std.specs.Option.{option_map, option_map_or}
 use Rattle.cg_stage_groups.specs.Keys.{key_at}
 use Rattle.cg_stage_groups.specs.declared.key.Key.{Key}
+use Rattle.cg_stage_list_laws.specs.Controlled.{has_preset_at}
 use Rattle.cg_stage_list_laws.specs.StableList.{StableKey, same_stable}
 use Rattle.cg_stage_list_laws.specs.Supports.{has_enable, supports}
 use Rattle.cg_stage_list_laws.specs.UnseenList.{plain_outputs, taken_at, unseen_key}
@@ -23,9 +24,13 @@ abbrev pub is_plain : Driver → ℕ → Bool
 is_plain (Register r false) q = nat_eq q r
 is_plain _ q = false
 
--- whether q guards what register k stands on: its bit is the enable of k, it takes one net alone, and has no enable
+-- whether a register takes one net alone, and has neither an enable nor a preset
+abbrev pub can_guard : MachineData → ℕ → Bool
+can_guard m q = not (has_enable m q) && not (has_preset_at m q) && is_some (taken_at m q)
+
+-- whether q guards what register k stands on: its bit is the enable of k
 abbrev pub may_guard : MachineData → ℕ → ℕ → Bool
-may_guard m k q = option_map_or (shows_plain m q) (enable_of m k) false && (not (has_enable m q) && is_some (taken_at m q))
+may_guard m k q = option_map_or (shows_plain m q) (enable_of m k) false && can_guard m q
 
 -- whether q guards g by one of the first n registers
 abbrev pub guards_by : MachineData → ℕ → ℕ → ℕ → Bool

@@ -3,9 +3,10 @@ use Rattle.std.specs.Prelude.{◌≡◌, ℕ, ◌<◌, Bool, true, not, ◌&&◌
 use Rattle.std.specs.List.{list_all}
 use Rattle.cg_stage_groups.specs.Keys.{key_at}
 use Rattle.cg_stage_groups.specs.declared.key.Key.{Key}
+use Rattle.cg_stage_list_laws.specs.Controlled.{has_lasting}
 use Rattle.cg_stage_list_laws.specs.Rounds.{is_empty}
 use Rattle.cg_stage_list_laws.specs.StableList.{stable_key}
-use Rattle.cg_stage_list_laws.specs.Supports.{has_enable, has_input, others_of}
+use Rattle.cg_stage_list_laws.specs.Supports.{has_input, others_of}
 use Rattle.cg_machine.specs.Machine.{MachineData}
 use Rattle.cg_net.specs.NetSets.{is_in}
 
@@ -13,9 +14,9 @@ use Rattle.cg_net.specs.NetSets.{is_in}
 abbrev pub AreRegisters : MachineData → List ℕ → Type 0
 AreRegisters m regs = (k : ℕ) → is_in regs k ≡ true → k < length m.circuit.registers
 
--- whether a register has a key
+-- whether a register without controls has a key
 abbrev pub is_keyed : MachineData → ℕ → Bool
-is_keyed m r = not (has_input m r) && not (is_empty (others_of m r)) && list_all (has_enable m) (others_of m r)
+is_keyed m r = not (has_input m r) && not (is_empty (others_of m r)) && list_all (has_lasting m) (others_of m r)
 
 -- there is a place for each register of the netlist, with its key
 pub record AreKeys (m : MachineData) (keys : List (Option Key)) : Type 0 where

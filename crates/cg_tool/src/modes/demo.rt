@@ -1,8 +1,9 @@
 //! The mode `demo`: a generated pipeline is gated, and a summary is said of it.
 
-ghost use Rattle.std.specs.Prelude.{◌≡◌, [], IfOk, IsTrue, None, Ok, Some, is_some, true};
+ghost use Rattle.std.specs.Prelude.{◌≡◌, [], IfOk, IsTrue, None, Ok, OnOk, Some, is_some, true};
 ghost use Rattle.std.specs.Option.{option_map};
 ghost use Rattle.cg_gate.specs.Request.{MayGate, stops_at};
+ghost use Rattle.cg_hold.specs.Progress.{SomeCourse, SomeWholeCourse};
 ghost use Rattle.cg_run.specs.Names.{name_of};
 ghost use Rattle.cg_run.specs.Promise.{FinishBy};
 ghost use Rattle.cg_run.specs.Reads.{Reads};
@@ -11,8 +12,10 @@ ghost use Rattle.cg_run.specs.Verdict.{Answers, Concludes};
 ghost use Rattle.cg_tool.specs.Demo.{IsDemo, PutsDemo, cells_text, demo_gives, demo_stops, demo_takes, demo_task};
 ghost use Rattle.cg_tool.specs.Demo.{demo_wanted, lines_text, pipeline_found, pipeline_request, pipeline_stops, rows_text};
 ghost use Rattle.cg_source.specs.Design.{permitted};
+ghost use Rattle.cg_source.specs.Accept.{accepts_nothing};
 ghost use Rattle.cg_source.specs.Library.{library_found};
 ghost use Rattle.cg_source.specs.Stimulus.{stimulus_found};
+ghost use Rattle.cg_tool.specs.Telling.{TellsPlan};
 ghost use Rattle.cg_tool.specs.Wanted.{gateable};
 
 use crate::modes::wanted::Wanted;
@@ -33,6 +36,7 @@ use cg_run::{
     put_out,
 };
 use cg_shelf::Shelf;
+use cg_source::accept::Accept;
 use cg_source::design::take_permitted;
 use cg_source::library::take_library;
 use cg_source::netlist::NetlistForm;
@@ -75,6 +79,7 @@ pub fn run<S: Shelf>(
 
     // A finished run gated the generated pipeline as its stimulus and the defaults say, and said the summary of it.
     ensures shown { IsTrue (S.world shelf.old).tells → FinishBy (IsDemo size (S.world shelf.old) (S.world shelf.new)) result }
+    ensures course { TellsPlan result (heard progress.old) (heard progress.new) }
 {
     match make_line(alloc, names) {
         Ok(line) => {
@@ -93,8 +98,10 @@ fn read<S: Shelf>(
     size: u32,
     progress: &mut dyn Progress,
 ) -> Result<Output, Refusal>
-    ensures { Reads demo_takes demo_stops demo_gives (name_of names.now) (record { size = size }) [] (S.world shelf.old)
+    ensures reads { Reads demo_takes demo_stops demo_gives (name_of names.now) (record { size = size }) [] (S.world shelf.old)
         (S.world shelf.new) result }
+    ensures course { SomeCourse (heard progress.old) (heard progress.new) }
+    ensures whole { OnOk result (SomeWholeCourse (heard progress.old) (heard progress.new)) }
 {
     let demo = collect(alloc, shelf, names, &[], Demo { size })?;
     Ok(finish(alloc, demo, progress)?)
@@ -102,7 +109,9 @@ fn read<S: Shelf>(
 
 /// What is put out of a pipeline of this size.
 fn finish(alloc: Global, demo: Demo, progress: &mut dyn Progress) -> Result<Output, Trouble>
-    ensures { Concludes (demo_stops demo) (demo_gives demo) result }
+    ensures concludes { Concludes (demo_stops demo) (demo_gives demo) result }
+    ensures course { SomeCourse (heard progress.old) (heard progress.new) }
+    ensures whole { OnOk result (SomeWholeCourse (heard progress.old) (heard progress.new)) }
 {
     let wanted = wanted(alloc)?;
     let pipeline = read_pipeline(alloc, demo.size, &wanted)?;
@@ -125,10 +134,10 @@ fn wanted(alloc: Global) -> Result<Wanted, AllocError>
 /// Reads the library.
 #[tactic(auto, unfolding(crate::specs::Demo::cells_text))]
 fn read_library(alloc: Global) -> Result<Library, Trouble>
-    ensures { Answers (library_found cells_text) result }
+    ensures { Answers (library_found accepts_nothing cells_text) result }
 {
     let text = Seq::from_vec(Vec::from_slice(alloc, library())?);
-    take_library(alloc, &text)
+    take_library(alloc, Accept::nothing(), &text)
 }
 
 /// Reads the netlist.
@@ -180,7 +189,9 @@ fn gate_pipeline(
 ) -> Result<Output, Trouble>
     requires wanted { wanted ≡ demo_wanted }
     requires read { pipeline_found size ≡ Ok pipeline }
-    ensures { Concludes (pipeline_stops (Ok pipeline)) (PutsDemo size (pipeline_request pipeline) pipeline.netlist) result }
+    ensures concludes { Concludes (pipeline_stops (Ok pipeline)) (PutsDemo size (pipeline_request pipeline) pipeline.netlist) result }
+    ensures course { SomeCourse (heard progress.old) (heard progress.new) }
+    ensures whole { OnOk result (SomeWholeCourse (heard progress.old) (heard progress.new)) }
 {
     let Pipeline {
         library,
@@ -207,7 +218,9 @@ fn gate_by(
 ) -> Result<Output, Trouble>
     requires may { MayGate request.now netlist }
     requires played { is_some request.now.stimulus ≡ true }
-    ensures { Concludes (option_map Trouble.Limit (stops_at request.now netlist)) (PutsDemo size request.now netlist) result }
+    ensures concludes { Concludes (option_map Trouble.Limit (stops_at request.now netlist)) (PutsDemo size request.now netlist) result }
+    ensures course { SomeCourse (heard progress.old) (heard progress.new) }
+    ensures whole { OnOk result (SomeWholeCourse (heard progress.old) (heard progress.new)) }
 {
     match gate_demo(alloc, size, netlist, request, progress) {
         Ok(said) => Ok(Output {

@@ -7,6 +7,7 @@ ghost use Rattle.cg_gate.specs.Headline.{Headline};
 ghost use Rattle.cg_gate.specs.Request.{MayGate};
 ghost use Rattle.cg_gate.specs.Stops.{GatingMayFail, gating_stop};
 ghost use Rattle.cg_command_line.specs.Options.{NamesTest};
+ghost use Rattle.cg_hold.specs.Progress.{SomeCourse, SomeWholeCourse};
 ghost use Rattle.cg_run.specs.Names.{name_of};
 ghost use Rattle.cg_run.specs.Promise.{FinishBy};
 ghost use Rattle.cg_run.specs.Reads.{Reads};
@@ -17,6 +18,7 @@ ghost use Rattle.cg_source.specs.Stimulus.{is_loaded};
 ghost use Rattle.cg_tool.specs.Gate.{GatesAs, MayBeGated, design_gives, design_stops, gate_gives, gate_output, gate_start, gate_stops};
 ghost use Rattle.cg_tool.specs.Gate.{gate_takes, gate_task, gate_trouble, text_for};
 ghost use Rattle.cg_tool.specs.Gated.{IsGated};
+ghost use Rattle.cg_tool.specs.Telling.{TellsPlan};
 
 use crate::modes::wanted::Wanted;
 use cg_command_line::Options;
@@ -54,6 +56,7 @@ pub fn run<S: Shelf>(
     // that was read shows.
     ensures gated { IsTrue (S.world shelf.old).tells
         → FinishBy (IsGated options (option_map (λ watcher. says watcher) watcher) (name_of names.now) (S.world shelf.old) (S.world shelf.new)) result }
+    ensures course { TellsPlan result (heard progress.old) (heard progress.new) }
 {
     match make_line(alloc, names) {
         Ok(line) => {
@@ -78,8 +81,10 @@ fn read<S: Shelf>(
     progress: &mut dyn Progress,
 ) -> Result<Output, Refusal>
     requires { NamesTest options }
-    ensures { Reads gate_takes gate_stops (gate_gives (option_map (λ watcher. says watcher) watcher)) (name_of names.now) (gate_start options)
+    ensures reads { Reads gate_takes gate_stops (gate_gives (option_map (λ watcher. says watcher) watcher)) (name_of names.now) (gate_start options)
         (design_loads (is_loaded options.asked.stimulus) options.asked.hints) (S.world shelf.old) (S.world shelf.new) result }
+    ensures course { SomeCourse (heard progress.old) (heard progress.new) }
+    ensures whole { OnOk result (SomeWholeCourse (heard progress.old) (heard progress.new)) }
 {
     let _ = options.prefix.bytes();
     let stimulus = is_loaded(options.asked.stimulus);
@@ -105,7 +110,9 @@ fn finish(
     progress: &mut dyn Progress,
 ) -> Result<Output, Trouble>
     requires { IsSomeAnd (design_of found) MayBeGated }
-    ensures { Concludes (gate_stops found) (gate_gives (option_map (λ watcher. says watcher) watcher) found) result }
+    ensures concludes { Concludes (gate_stops found) (gate_gives (option_map (λ watcher. says watcher) watcher) found) result }
+    ensures course { SomeCourse (heard progress.old) (heard progress.new) }
+    ensures whole { OnOk result (SomeWholeCourse (heard progress.old) (heard progress.new)) }
 {
     gate_design(alloc, found.read(), watcher, progress)
 }
@@ -119,7 +126,9 @@ fn gate_design(
     progress: &mut dyn Progress,
 ) -> Result<Output, Trouble>
     requires { MayBeGated design }
-    ensures { Concludes (design_stops design) (design_gives (option_map (λ watcher. says watcher) watcher) design) result }
+    ensures concludes { Concludes (design_stops design) (design_gives (option_map (λ watcher. says watcher) watcher) design) result }
+    ensures course { SomeCourse (heard progress.old) (heard progress.new) }
+    ensures whole { OnOk result (SomeWholeCourse (heard progress.old) (heard progress.new)) }
 {
     let Design {
         demand,
@@ -149,8 +158,10 @@ fn put_gated(
     progress: &mut dyn Progress,
 ) -> Result<Output, Trouble>
     requires { MayGate request.now netlist }
-    ensures { Concludes (option_map gate_trouble (gating_stop request.now netlist))
+    ensures concludes { Concludes (option_map gate_trouble (gating_stop request.now netlist))
         (GatesAs (option_map (λ watcher. says watcher) watcher) request.now netlist) result }
+    ensures course { SomeCourse (heard progress.old) (heard progress.new) }
+    ensures whole { OnOk result (SomeWholeCourse (heard progress.old) (heard progress.new)) }
 {
     match gated(alloc, netlist, request, watcher, progress) {
         Ok(texts) => Ok(put_texts(alloc, texts)?),
@@ -197,6 +208,8 @@ fn gated(
     ensures headline { IfOk result (λ texts. Headline request.now (option_map (λ watcher. says watcher) watcher) netlist texts) }
     ensures unstopped { OnOk result (gating_stop request.now netlist ≡ None) }
     ensures fault { IfErr result (GatingMayFail (gating_stop request.now netlist)) }
+    ensures course { SomeCourse (heard progress.old) (heard progress.new) }
+    ensures whole { OnOk result (SomeWholeCourse (heard progress.old) (heard progress.new)) }
 {
     gate(alloc, netlist, request, watcher, progress)
 }

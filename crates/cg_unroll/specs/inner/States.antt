@@ -3,25 +3,27 @@ use Rattle.std.specs.Prelude.{◌≡◌, ℕ, true, if◌then◌else◌, List, l
 use Rattle.cg_cell.specs.Build.{Run}
 use Rattle.cg_cell.specs.Domain.{AreValid, Keeps, Seen}
 use Rattle.cg_aig.specs.Aig.{aig_ops}
-use Rattle.cg_machine.specs.Machine.{MachineData, enable_of}
+use Rattle.cg_machine.specs.Claims.{lasting_enable}
+use Rattle.cg_machine.specs.Machine.{MachineData}
 use Rattle.cg_net.specs.NetSets.{is_in}
 use Rattle.cg_claim.specs.Build.{aig_values, lay_states, mux_run, next_run}
 use Rattle.cg_claim.specs.Question.{Question}
+use Rattle.cg_claim.specs.Reach.{takes_next}
 use Rattle.cg_claim.specs.Tables.{SameOn}
 use Rattle.cg_unroll.specs.Building.{table_of}
 
 -- the state of a register: that of its leaf where that is not the constant 0, and else its next bit
 abbrev pub state_step : MachineData → (ℕ → ℕ) → (ℕ → ℕ) → (ℕ → ℕ) → ℕ → Seen → Run
 state_step m nets own free r s =
-    if nat_eq (free r) 0 then next_run aig_values m nets own r s else mux_run aig_values (enable_of m r) nets (free r) (own r) s
+    if nat_eq (free r) 0 then next_run aig_values m nets own r s else mux_run aig_values (lasting_enable m r) nets (free r) (own r) s
 
 -- of these registers, those that hold their next bits have the constant 0 for a leaf, and the others have not
-abbrev pub TellsFollows : List ℕ → (ℕ → ℕ) → List ℕ → Type 0
-TellsFollows follows free registers = (r : ℕ) → is_in registers r ≡ true → is_in follows r ≡ nat_eq (free r) 0
+abbrev pub TellsFollows : MachineData → Question → (ℕ → ℕ) → List ℕ → Type 0
+TellsFollows m q free registers = (r : ℕ) → is_in registers r ≡ true → takes_next m q r ≡ nat_eq (free r) 0
 
 -- the states of these registers were laid
 pub record LaysStates (m : MachineData) (nets own free : ℕ → ℕ) (registers : List ℕ) (s t : Seen) (old new : List ℕ) : Type 0 where
-  pub same : (q : Question) → TellsFollows q.follows free registers →
+  pub same : (q : Question) → TellsFollows m q free registers →
       SameOn (λ _. true) (table_of t new) (lay_states aig_values m q nets own free registers (table_of s old))
   pub keeps : Keeps aig_ops s t
   pub valid : AreValid aig_ops t new
@@ -30,7 +32,7 @@ pub record LaysStates (m : MachineData) (nets own free : ℕ → ℕ) (registers
 -- states are being laid: those that are left lead from here to where all lead from the start
 pub record IsLayingStates (m : MachineData) (nets own free : ℕ → ℕ) (all left : List ℕ) (s t : Seen)
     (old now : List ℕ) : Type 0 where
-  pub leads : (q : Question) → TellsFollows q.follows free all →
+  pub leads : (q : Question) → TellsFollows m q free all →
       SameOn (λ _. true) (lay_states aig_values m q nets own free left (table_of t now))
       (lay_states aig_values m q nets own free all (table_of s old))
   pub keeps : Keeps aig_ops s t

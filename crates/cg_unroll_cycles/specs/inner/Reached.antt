@@ -1,8 +1,8 @@
 -- What a question reaches in its cycles, as the program holds it.
-use Rattle.std.specs.Prelude.{◌≡◌, ◌<◌, ◌≤◌, ℕ, ◌-◌, ◌+◌, ◌++◌, ◌||◌, true, List, length, slice_get, Some}
+use Rattle.std.specs.Prelude.{◌≡◌, ◌<◌, ◌≤◌, ℕ, zero, suc, ◌-◌, ◌+◌, ◌++◌, ◌||◌, Bool, true, not, List, length, slice_get, Some}
 use Rattle.std.specs.List.{filter}
 use Rattle.cg_net.specs.NetSets.{is_in}
-use Rattle.cg_machine.specs.Machine.{MachineData}
+use Rattle.cg_machine.specs.Machine.{MachineData, has_controls}
 use Rattle.cg_claim.specs.Reach.{registers_of}
 use Rattle.cg_claim_reach.specs.Reached.{IsConeOf}
 use Rattle.cg_hint_laws.specs.Leaves.{leaves_of}
@@ -28,19 +28,35 @@ pub record IsThere (m : MachineData) (a : Asked) : Type 0 where
   pub nets : (y : ℕ) → is_in a.nets y ≡ true → y < length m.circuit.names
   pub states : (r : ℕ) → a.states r ≡ true → r < length m.circuit.registers
 
--- what is reached in a cycle of which this is asked: a cone, and registers in order
-pub record IsReachOf (m : MachineData) (a : Asked) (cycle : CycleReach) : Type 0 where
+-- what is reached in a cycle of which this is asked: a cone, and registers in order, of which some are given and the others follow
+pub record IsReachOf (m : MachineData) (a : Asked) (is_given : ℕ → Bool) (cycle : CycleReach) : Type 0 where
   pub cone : IsConeOf m (reached_nets m a) cycle.cone
-  pub states : cycle.states ≡ filter (reached_states m a) (registers_of m)
+  pub given : cycle.given ≡ filter is_given (filter (reached_states m a) (registers_of m))
+  pub follows : cycle.follows ≡ filter (λ r. not (is_given r)) (filter (reached_states m a) (registers_of m))
+
+-- in the first cycle all registers are given, and in a later one those with controls
+abbrev pub given_in : MachineData → ℕ → ℕ → Bool
+given_in m zero r = true
+given_in m (suc i) r = has_controls m r
+
+abbrev pub IsFirst : MachineData → Asked → CycleReach → Type 0
+IsFirst m a cycle = IsReachOf m a (λ _. true) cycle
+
+abbrev pub IsLater : MachineData → Asked → CycleReach → Type 0
+IsLater m a cycle = IsReachOf m a (has_controls m) cycle
 
 -- cycles from the last one on, that one first
 abbrev pub AreBack : MachineData → Question → List CycleReach → Type 0
-AreBack m q cycles = (j : ℕ) (cycle : CycleReach) → slice_get cycles j ≡ Some cycle → IsReachOf m (asked_back m q.register j) cycle
+AreBack m q cycles = (j : ℕ) (cycle : CycleReach) → slice_get cycles j ≡ Some cycle → IsLater m (asked_back m q.register j) cycle
+
+-- cycle i of a question
+abbrev pub IsCycle : MachineData → Question → ℕ → CycleReach → Type 0
+IsCycle m q i cycle = IsReachOf m (asked_of m q i) (given_in m i) cycle
 
 -- all cycles of a question, the last one first
 pub record AreCycles (m : MachineData) (q : Question) (cycles : List CycleReach) : Type 0 where
   pub count : length cycles ≡ q.after + 1
-  pub each : (i : ℕ) (cycle : CycleReach) → i ≤ q.after → slice_get cycles (q.after - i) ≡ Some cycle → IsReachOf m (asked_of m q i) cycle
+  pub each : (i : ℕ) (cycle : CycleReach) → i ≤ q.after → slice_get cycles (q.after - i) ≡ Some cycle → IsCycle m q i cycle
 
 -- the cycles and the leaves of a question
 pub record IsReached (m : MachineData) (q : Question) (reached : Reached) : Type 0 where

@@ -7,6 +7,7 @@ use Rattle.cg_gate.specs.Gating.{GivesGated, IsWritten, gated_data}
 use Rattle.cg_gate.specs.Left.{IsGatedAs, TellsLeft, uncertified}
 use Rattle.cg_gate.specs.declared.planning.Gated.{Gated}
 use Rattle.cg_gate.proofs.Left.{tells_all}
+use Rattle.cg_hold.proofs.Heard.{whole_anyway}
 use Rattle.cg_hint_laws.specs.declared.outcome.HintOutcome.{HintOutcome}
 use Rattle.cg_gate.specs.Headline.{Headline}
 use Rattle.cg_gate.specs.Proper.{IsProper}
@@ -82,3 +83,6 @@ returns-clause-fault g c =
     let gated = c.in_ok-gated.gated in
     stopped_so (gating_stop request read) (verilog_stop request.verilog gated.netlist)
     (same_stop request read c.in_ok-gated.ensures.proper c.requires c.in_ok-gated.ensures.gated.hints c.in_ok-gated.ensures.gated.plan gated.netlist c.in_ok-gated.ensures.gated.written) c.finish.result c.finish.ensures.fault
+
+pub returns-clause-whole : goal.returns-clause-whole
+returns-clause-whole g c = whole_anyway c.finish.result _ _ _ _ c.in_ok-gated.ensures.whole

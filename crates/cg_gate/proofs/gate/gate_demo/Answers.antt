@@ -26,3 +26,6 @@ returns-clause-gives g c =
     let rows = c.unwrap-stimulus.result.now in
     let says = subst (λ (d : Circuit). SaysDemo c.args.size rows.rows d gated.netlist (told gated.plan) c.in_ok-said.field-0) (c.read.ensures ∙ c.in_ok-gated.ensures.read) c.in_ok-said.ensures in
     record { stimulus = rows; played = is; hints = tried.hints; told = tried.plan; written = gated.netlist; gated = tried.written; says = says_all c.args.request.now c.args.size rows.rows c.args.netlist gated tried c.in_ok-said.field-0 says }
+
+pub returns-clause-whole : goal.returns-clause-whole
+returns-clause-whole g c = c.in_ok-gated.ensures.whole

@@ -1,4 +1,4 @@
-use Rattle.std.proofs.Common.{◌≡◌, ◌≤◌, ℕ, IfErr, IfOk, List, map, length, Option, None, Some, ap, sym, subst, ◌∙◌}
+use Rattle.std.proofs.Common.{◌≡◌, ◌≤◌, ℕ, IfErr, IfOk, List, map, length, Option, None, Some, refl, ap, sym, subst, ◌∙◌}
 use Rattle.std.specs.List.{All}
 use Rattle.std.specs.Option.{option_copied}
 use Rattle.cg_extract.specs.Lifted.{kept_nets, origins}
@@ -6,12 +6,15 @@ use Rattle.cg_extract.specs.Reading.{read_of}
 use Rattle.cg_gate.proofs.Counted.{is_idle, zero_counts_same}
 use Rattle.cg_gate.proofs.Unrefused.{untested}
 use Rattle.cg_gate.proofs.planning.plan_begun.Goals as goal
-use Rattle.cg_gate.specs.Request.{MayGate, RequestData, begun_of, gating_of}
+use Rattle.cg_gate.specs.Request.{MayGate, RequestData, begun_of, gating_of, lists_of}
 use Rattle.cg_gate.specs.ZeroCounting.{zero_counts_of, zeros_by}
 use Rattle.cg_gate_laws.proofs.BegunSafe.{begun_few}
+use Rattle.cg_hold.proofs.Heard.{same_one, same_whole}
+use Rattle.cg_hold.specs.Progress.{One}
 use Rattle.cg_machine.specs.Machine.{MachineData}
 use Rattle.cg_netlist.specs.Circuit.{Circuit}
 use Rattle.cg_netlist.specs.History.{Moment}
+use Rattle.cg_plan.specs.Lists.{list_counts}
 use Rattle.cg_plan.specs.Planning.{told}
 use Rattle.cg_plan_laws.specs.Plan.{plan_of}
 use Rattle.cg_plan_laws.specs.Reported.{IsPlan, PlanMayFail}
@@ -40,6 +43,11 @@ module _ (request : RequestData) (netlist : Circuit) (may : MayGate request netl
         zero_counts_same netlist request.prefix may.start m few (untested request.library request.test netlist may.lifts) rows lawful (may.played rows there) counts.0 counts.1 zeros count counts.2 long
         ∙ (ap (λ (k : MachineData). zero_counts_of netlist request.prefix k (Some rows)) is
         ∙ ap (zero_counts_of netlist request.prefix (begun_of request netlist)) (sym there))
+
+    same_lists : list_counts request.library request.settings (Some (record { zeros = zeros; rows = count })) m ≡ lists_of request netlist
+    same_lists =
+        ap (list_counts request.library request.settings (Some (record { zeros = zeros; rows = count }))) is
+        ∙ ap (λ (i : Option ZeroCounts). list_counts request.library request.settings i (begun_of request netlist)) as_wanted
 
 pub machine_zeros-requires-clause-stimulus : goal.machine_zeros-requires-clause-stimulus
 machine_zeros-requires-clause-stimulus g c =
@@ -107,3 +115,49 @@ returns-in-Ok-clause-fault g c =
     let same = as_wanted request netlist c.requires.may c.args.machine c.requires.begun rows some c.rows.ensures.stimulus read c.read_of-netlist.ensures zeros c.rows.result c.rows.ensures.count counted in
     let F : MachineData → Option ZeroCounts → Type 0 = λ k i. IfErr c.plan_machine-in-Some.result (PlanMayFail (plan_of request.library request.settings i k).limit) in
     subst (F (begun_of request netlist)) same (subst (λ k. F k (Some (record { zeros = zeros; rows = c.rows.result }))) c.requires.begun c.plan_machine-in-Some.ensures.fault)
+
+pub returns-in-None-clause-course : goal.returns-in-None-clause-course
+returns-in-None-clause-course g c =
+    let request = c.args.request.now in
+    let netlist = read_of c.args.kept.now c.args.machine in
+    let m : MachineData = begun_of request netlist in
+    let none : request.stimulus ≡ None = sym (ap (λ (r : RequestData). r.stimulus) c.request.view_is) ∙ ap option_copied c.in-None.is in
+    let same : list_counts request.library request.settings None c.args.machine ≡ lists_of request netlist = ap (list_counts request.library request.settings None) c.requires.begun
+    ∙ ap (λ (i : Option ZeroCounts). list_counts request.library request.settings i m) (ap (zero_counts_of netlist request.prefix m) (sym none)) in
+    One (same_one c.args.machine.own_registers _ _ _ _ same c.plan_machine.ensures.course)
+
+pub returns-in-None-clause-whole : goal.returns-in-None-clause-whole
+returns-in-None-clause-whole g c =
+    let request = c.args.request.now in
+    let netlist = read_of c.args.kept.now c.args.machine in
+    let m : MachineData = begun_of request netlist in
+    let none : request.stimulus ≡ None = sym (ap (λ (r : RequestData). r.stimulus) c.request.view_is) ∙ ap option_copied c.in-None.is in
+    let same : list_counts request.library request.settings None c.args.machine ≡ lists_of request netlist = ap (list_counts request.library request.settings None) c.requires.begun
+    ∙ ap (λ (i : Option ZeroCounts). list_counts request.library request.settings i m) (ap (zero_counts_of netlist request.prefix m) (sym none)) in
+    same_whole c.plan_machine.result c.args.machine.own_registers _ _ _ _ _ refl same c.plan_machine.ensures.whole
+
+pub returns-in-Ok-clause-course : goal.returns-in-Ok-clause-course
+returns-in-Ok-clause-course g c =
+    let request = c.args.request.now in
+    let netlist = read_of c.args.kept.now c.args.machine in
+    let rows = c.in-Some.stimulus.now in
+    let zeros = c.deref.result.now in
+    let read = c.read_of-netlist.result.now in
+    let some : request.stimulus ≡ Some rows = sym (ap (λ (r : RequestData). r.stimulus) c.request.view_is) ∙ ap option_copied c.in-Some.is in
+    let counted = subst (AreCounts read c.args.machine rows) (sym c.deref.ensures.value) c.in-Ok.ensures.zeros in
+    let same : list_counts request.library request.settings (Some (record { zeros = zeros; rows = c.rows.result })) c.args.machine ≡ lists_of request netlist =
+    same_lists request netlist c.requires.may c.args.machine c.requires.begun rows some c.rows.ensures.stimulus read c.read_of-netlist.ensures zeros c.rows.result c.rows.ensures.count counted in
+    One (same_one c.args.machine.own_registers _ _ _ _ same c.plan_machine-in-Some.ensures.course)
+
+pub returns-in-Ok-clause-whole : goal.returns-in-Ok-clause-whole
+returns-in-Ok-clause-whole g c =
+    let request = c.args.request.now in
+    let netlist = read_of c.args.kept.now c.args.machine in
+    let rows = c.in-Some.stimulus.now in
+    let zeros = c.deref.result.now in
+    let read = c.read_of-netlist.result.now in
+    let some : request.stimulus ≡ Some rows = sym (ap (λ (r : RequestData). r.stimulus) c.request.view_is) ∙ ap option_copied c.in-Some.is in
+    let counted = subst (AreCounts read c.args.machine rows) (sym c.deref.ensures.value) c.in-Ok.ensures.zeros in
+    let same : list_counts request.library request.settings (Some (record { zeros = zeros; rows = c.rows.result })) c.args.machine ≡ lists_of request netlist =
+    same_lists request netlist c.requires.may c.args.machine c.requires.begun rows some c.rows.ensures.stimulus read c.read_of-netlist.ensures zeros c.rows.result c.rows.ensures.count counted in
+    same_whole c.plan_machine-in-Some.result c.args.machine.own_registers _ _ _ _ _ refl same c.plan_machine-in-Some.ensures.whole

@@ -7,10 +7,12 @@ use Rattle.cg_gate.proofs.Hinted.{if_err}
 use Rattle.cg_gate.proofs.Kept.{read_begun}
 use Rattle.cg_gate.proofs.planning.plan_netlist.Goals as goal
 use Rattle.cg_gate.specs.Gating.{AreHintsTried, IsBegunPlan}
-use Rattle.cg_gate.specs.Request.{MayGate, RequestData, begun_of, gating_of, hints_limit, limit_of, plan_limit}
+use Rattle.cg_gate.specs.Request.{MayGate, RequestData, begun_of, gating_of, hints_limit, limit_of, lists_of, plan_limit}
 use Rattle.cg_gate.specs.declared.planning.Begun.{Begun}
 use Rattle.cg_gate.specs.declared.planning.Planned.{Planned}
+use Rattle.cg_hold.proofs.Heard.{no_course, same_course, same_whole}
 use Rattle.cg_limit.specs.declared.Limit.{Limit}
+use Rattle.cg_machine.specs.Machine.{MachineData}
 use Rattle.cg_netlist.specs.Circuit.{Circuit}
 use Rattle.cg_plan.specs.Planning.{told}
 use Rattle.cg_plan_laws.specs.Reported.{PlanMayFail}
@@ -58,3 +60,20 @@ returns-clause-fault g c =
     (read_is request netlist c.in_ok-begun.begun c.requires c.in_ok-begun.ensures.machine c.in_ok-begun.ensures.kept) c.plan_hinted.ensures.fault in
     if_err (PlanMayFail (plan_limit by netlist)) (PlanMayFail (option_or (hints_limit by netlist) (plan_limit by netlist))) c.plan_hinted.result
     (λ fault may. subst (λ (l : Option Limit). PlanMayFail (option_or l (plan_limit by netlist)) fault) (sym none) may) may
+
+pub returns-in_err-begun-clause-course : goal.returns-in_err-begun-clause-course
+returns-in_err-begun-clause-course g c = no_course _ _ _
+
+pub returns-clause-course : goal.returns-clause-course
+returns-clause-course g c =
+    let request = c.args.request.now in
+    let begun = c.in_ok-begun.begun in
+    let is = read_is request c.args.netlist begun c.requires c.in_ok-begun.ensures.machine c.in_ok-begun.ensures.kept in
+    same_course begun.machine.own_registers _ _ _ _ _ (ap (λ (m : MachineData). m.own_registers) c.in_ok-begun.ensures.machine) (ap (lists_of request) is) c.plan_hinted.ensures.course
+
+pub returns-clause-whole : goal.returns-clause-whole
+returns-clause-whole g c =
+    let request = c.args.request.now in
+    let begun = c.in_ok-begun.begun in
+    let is = read_is request c.args.netlist begun c.requires c.in_ok-begun.ensures.machine c.in_ok-begun.ensures.kept in
+    same_whole c.plan_hinted.result begun.machine.own_registers _ _ _ _ _ (ap (λ (m : MachineData). m.own_registers) c.in_ok-begun.ensures.machine) (ap (lists_of request) is) c.plan_hinted.ensures.whole

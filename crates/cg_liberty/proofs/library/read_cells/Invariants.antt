@@ -6,7 +6,7 @@ use Rattle.cg_liberty.proofs.library.read_cells.Given as goal
 
 abbrev pub invariant-statements : goal.invariant-statements
 invariant-statements l = record {
-  cells : Remains l.library (cells_from 0 l.statements.0) (all_added [] (cells_from 0 l.fn.statements.0));
+  cells : Remains l.controls l.library (cells_from 0 l.statements.0) (all_added l.controls [] (cells_from 0 l.fn.statements.0));
   fault : l.fn.statements.1 ≡ l.statements.1;
 }
 

@@ -1,35 +1,18 @@
-use Rattle.std.proofs.Common.{sym, ◌∙◌, ap, subst}
-use Rattle.std.proofs.lemmas.Result.{err_from_is_err_and}
-use Rattle.cg_netlist.specs.Circuit.{Circuit}
-use Rattle.cg_netlist.specs.Netlist.{IsNetlist}
+use Rattle.std.proofs.Common.{◌∙◌, ap, sym, subst}
 use Rattle.cg_netlist.specs.Ranks.{ranks_of}
-use Rattle.cg_netlist_builder.specs.inner.Numbers.{Numbers, made_of}
-use Rattle.cg_netlist_parts.specs.Says.{Says}
-use Rattle.cg_netlist_builder.proofs.FirstFaults.{names_named}
-use Rattle.cg_netlist_builder.proofs.RanksKept.{ranks_kept}
-use Rattle.cg_netlist_builder.proofs.ReadyNumbers.{makes_netlist, ready, says_alike, says_own}
+use Rattle.cg_netlist_builder.specs.inner.Heard.{IsHeard}
+use Rattle.cg_netlist_builder.specs.inner.Numbers.{Numbers, seen}
 use Rattle.cg_netlist_builder.proofs.finish.finished.Goals as goal
 
-pub check-requires-clause-named : goal.check-requires-clause-named
-check-requires-clause-named c = names_named c.args.model c.args.told c.requires
+pub with_cycles-requires-clause-numbers : goal.with_cycles-requires-clause-numbers
+with_cycles-requires-clause-numbers c = c.requires.numbers
 
-pub returns-in_err-check : goal.returns-in_err-check
-returns-in_err-check c =
-    let p = err_from_is_err_and c.from_residual-in_err-check.result c.from_residual-in_err-check.ensures.1 in
-    rw (p.1, p.2) c.in_err-check.ensures
-
-pub in_net_order-requires : goal.in_net_order-requires
-in_net_order-requires c = ready c.args.model c.args.told c.requires (c.in_ok-check.ensures c.requires.parts c.requires.heard)
-
-pub with_ranks-requires-clause-netlist : goal.with_ranks-requires-clause-netlist
-with_ranks-requires-clause-netlist c = subst IsNetlist (sym c.in_ok-parts.ensures) (makes_netlist c.args.model c.args.told c.requires (c.in_ok-check.ensures c.requires.parts c.requires.heard))
-
-pub with_ranks-requires-clause-ranks : goal.with_ranks-requires-clause-ranks
-with_ranks-requires-clause-ranks c =
-    c.deref-3.ensures.value ∙ (c.in_ok-ranks.ensures ∙ (ap ranks_of c.deref.ensures.value ∙ (ap (λ (n : Numbers). ranks_of n.cells) c.told.view_is ∙ (ranks_kept c.args.model c.args.told (ready c.args.model c.args.told c.requires (c.in_ok-check.ensures c.requires.parts c.requires.heard)) ∙ ap (λ (parts : Circuit). ranks_of parts.cells) (sym c.in_ok-parts.ensures)))))
+pub finished_with-requires-clause-heard : goal.finished_with-requires-clause-heard
+finished_with-requires-clause-heard c = subst (IsHeard c.args.model) (sym c.in_ok-told.ensures.0) c.requires
 
 pub returns : goal.returns
-returns c = λ parts same.
-    let heard = c.requires in
-    subst (Says c.args.model parts) (sym (c.in_ok-netlist.ensures ∙ c.in_ok-parts.ensures))
-    (says_alike c.args.model heard.parts parts (made_of c.args.model c.args.told) (heard.heard ∙ sym same) (says_own c.args.model c.args.told heard (c.in_ok-check.ensures heard.parts heard.heard)))
+returns c = λ parts same. c.finished_with.ensures parts (same ∙ ap seen (sym c.in_ok-told.ensures.0))
+
+pub finished_with-requires-clause-ranks : goal.finished_with-requires-clause-ranks
+finished_with-requires-clause-ranks c =
+    c.deref-3.ensures.value ∙ (c.in_ok-ranks.ensures ∙ (ap ranks_of c.deref.ensures.value ∙ ap (λ (n : Numbers). ranks_of n.cells) (c.told.view_is ∙ sym c.in_ok-told.ensures.0)))

@@ -16,14 +16,14 @@ register-requires-clause-fits c =
     let r : RegisterCell ℕ ℕ = record (register_seen c.args.register) { clock = c.args.clock } in
     let name : Bor (List ℕ) → NetName = λ n. n.now in
     let pair : Bor (List ℕ) × ℕ → NetName × ℕ = λ output. (output.0.now, output.1) in
-    (subst IsPart (sym (register_call c.args.names.now r (option_copied c.cell_of.result) (map name c.deref.result.now) (map pair c.deref-2.result.now) c.name.result.now c.cell_of.ensures (ap (map name) c.deref.ensures.value ∙ c.in_ok-inputs.ensures) (ap (map pair) c.deref-2.ensures.value ∙ c.in_ok-outputs.ensures) c.name.ensures c.requires.each.0)) c.requires.each.0).fits
+    (subst IsPart (sym (register_call c.args.names.now r (option_copied c.cell_of.result) (map name c.deref.result.now) (map name c.deref-2.result.now) (map pair c.deref-3.result.now) c.name.result.now c.cell_of.ensures (ap (map name) c.deref.ensures.value ∙ c.in_ok-inputs.ensures) (ap (map name) c.deref-2.ensures.value ∙ c.in_ok-controls.ensures) (ap (map pair) c.deref-3.ensures.value ∙ c.in_ok-outputs.ensures) c.name.ensures c.requires.each.0)) c.requires.each.0).fits
 
 pub register-requires-clause-nets : goal.register-requires-clause-nets
 register-requires-clause-nets c =
     let r : RegisterCell ℕ ℕ = record (register_seen c.args.register) { clock = c.args.clock } in
     let name : Bor (List ℕ) → NetName = λ n. n.now in
     let pair : Bor (List ℕ) × ℕ → NetName × ℕ = λ output. (output.0.now, output.1) in
-    (subst IsPart (sym (register_call c.args.names.now r (option_copied c.cell_of.result) (map name c.deref.result.now) (map pair c.deref-2.result.now) c.name.result.now c.cell_of.ensures (ap (map name) c.deref.ensures.value ∙ c.in_ok-inputs.ensures) (ap (map pair) c.deref-2.ensures.value ∙ c.in_ok-outputs.ensures) c.name.ensures c.requires.each.0)) c.requires.each.0).named
+    (subst IsPart (sym (register_call c.args.names.now r (option_copied c.cell_of.result) (map name c.deref.result.now) (map name c.deref-2.result.now) (map pair c.deref-3.result.now) c.name.result.now c.cell_of.ensures (ap (map name) c.deref.ensures.value ∙ c.in_ok-inputs.ensures) (ap (map name) c.deref-2.ensures.value ∙ c.in_ok-controls.ensures) (ap (map pair) c.deref-3.ensures.value ∙ c.in_ok-outputs.ensures) c.name.ensures c.requires.each.0)) c.requires.each.0).named
 
 pub returns : goal.returns
 returns c =
@@ -31,4 +31,4 @@ returns c =
     let name : Bor (List ℕ) → NetName = λ n. n.now in
     let pair : Bor (List ℕ) × ℕ → NetName × ℕ = λ output. (output.0.now, output.1) in
     tells_one c.args.builder.now c.register.new.self (clocked_part c.args.names.now r) c.register.result c.requires
-    (subst (λ (p : Part). Takes c.args.builder.now p c.register.new.self c.register.result) (register_call c.args.names.now r (option_copied c.cell_of.result) (map name c.deref.result.now) (map pair c.deref-2.result.now) c.name.result.now c.cell_of.ensures (ap (map name) c.deref.ensures.value ∙ c.in_ok-inputs.ensures) (ap (map pair) c.deref-2.ensures.value ∙ c.in_ok-outputs.ensures) c.name.ensures c.requires.each.0) c.register.ensures)
+    (subst (λ (p : Part). Takes c.args.builder.now p c.register.new.self c.register.result) (register_call c.args.names.now r (option_copied c.cell_of.result) (map name c.deref.result.now) (map name c.deref-2.result.now) (map pair c.deref-3.result.now) c.name.result.now c.cell_of.ensures (ap (map name) c.deref.ensures.value ∙ c.in_ok-inputs.ensures) (ap (map name) c.deref-2.ensures.value ∙ c.in_ok-controls.ensures) (ap (map pair) c.deref-3.ensures.value ∙ c.in_ok-outputs.ensures) c.name.ensures c.requires.each.0) c.register.ensures)

@@ -8,8 +8,8 @@ use Rattle.cg_tool.proofs.Program.{usage, usage_keeps, usage_only}
 use Rattle.cg_tool.proofs.Said.{check_as_said, has_these_bounds, has_these_limits, read_as_said}
 use Rattle.cg_tool.proofs.top.run.Goals as goal
 
-pub returns : goal.returns
-returns g c =
+pub returns-clause-promises : goal.returns-clause-promises
+returns-clause-promises g c =
     let kinds = map (λ w. (goal.Watcher-dyn g (w.vtable, w.value)).says w.value) c.args.watchers.items in
     let called = map (λ w. (goal.Watcher-dyn g (w.vtable, w.value)).called w.value) c.args.watchers.items in
     let words = map string_bytes c.args.words.now in
@@ -17,7 +17,7 @@ returns g c =
     let before = g.S.Shelf.world c.args.shelf.now in
     let after = g.S.Shelf.world c.run_words.new.shelf in
     let result = c.run_words.result in
-    let runs = c.run_words.ensures in
+    let runs = c.run_words.ensures.runs in
     record {
       runs = job_runs kinds job before after result runs;
       usage = usage kinds job before after result runs;

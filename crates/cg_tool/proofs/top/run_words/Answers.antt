@@ -3,8 +3,10 @@ use Rattle.std.specs.Option.{option_map}
 use Rattle.std.specs.String.{string_bytes}
 use Rattle.cg_command_line.specs.Jobs.{JobWords, job_of, job_words}
 use Rattle.cg_command_line.proofs.TestInput.{job_names_test}
+use Rattle.cg_hold.proofs.Heard.{hears_none}
 use Rattle.cg_tool.specs.Program.{RunsWords, task_by}
 use Rattle.cg_tool.proofs.Program.{refused_words, runs_unread}
+use Rattle.cg_tool.proofs.Telling.{tells_same, tells_unread}
 use Rattle.cg_tool.proofs.top.run_words.Goals as goal
 
 pub run_job-requires : goal.run_job-requires
@@ -22,7 +24,10 @@ returns-in-Ok-Some g c =
     let R : Option JobWords → Type 0 = λ job. RunsWords (task_by kinds) job before after c.run_job.result in
     let called = map (λ w. (goal.Watcher-dyn g (w.vtable, w.value)).called w.value) in
     let words = map string_bytes c.args.words.now in
-    subst R (ap (option_map job_words) (sym c.in-Ok-Some.field-0-is) ∙ c.in-Ok-Some.ensures ∙ ap (λ watchers. job_of (called watchers) words) c.as_slice.ensures.value) c.run_job.ensures
+    record {
+      runs = subst R (ap (option_map job_words) (sym c.in-Ok-Some.field-0-is) ∙ c.in-Ok-Some.ensures ∙ ap (λ watchers. job_of (called watchers) words) c.as_slice.ensures.value) c.run_job.ensures.runs;
+      course = tells_same _ _ c.run_job.result _ _ (ap (option_map job_words) (sym c.in-Ok-Some.field-0-is) ∙ c.in-Ok-Some.ensures ∙ ap (λ watchers. job_of (called watchers) words) c.as_slice.ensures.value) c.run_job.ensures.course;
+    }
 
 pub returns-in-Ok-None : goal.returns-in-Ok-None
 returns-in-Ok-None g c =
@@ -32,11 +37,17 @@ returns-in-Ok-None g c =
     let R : Option JobWords → Type 0 = λ job. RunsWords (task_by kinds) job before after c.complain.result in
     let called = map (λ w. (goal.Watcher-dyn g (w.vtable, w.value)).called w.value) in
     let words = map string_bytes c.args.words.now in
-    subst R (ap (option_map job_words) (sym c.in-Ok-None.field-0-is) ∙ c.in-Ok-None.ensures ∙ ap (λ watchers. job_of (called watchers) words) c.as_slice.ensures.value) (refused_words before after c.complain.result c.complain.ensures)
+    record {
+      runs = subst R (ap (option_map job_words) (sym c.in-Ok-None.field-0-is) ∙ c.in-Ok-None.ensures ∙ ap (λ watchers. job_of (called watchers) words) c.as_slice.ensures.value) (refused_words before after c.complain.result c.complain.ensures);
+      course = tells_same _ _ c.complain.result _ _ (ap (option_map job_words) (sym c.in-Ok-None.field-0-is) ∙ c.in-Ok-None.ensures ∙ ap (λ watchers. job_of (called watchers) words) c.as_slice.ensures.value) (hears_none _);
+    }
 
 pub returns-in-Err : goal.returns-in-Err
 returns-in-Err g c =
     let kinds = map (λ w. (goal.Watcher-dyn g (w.vtable, w.value)).says w.value) c.args.watchers.items in
     let called = map (λ w. (goal.Watcher-dyn g (w.vtable, w.value)).called w.value) c.args.watchers.items in
     let words = map string_bytes c.args.words.now in
-    runs_unread kinds (job_of called words) (g.S.Shelf.world c.args.shelf.now) (g.S.Shelf.world c.no_memory.new.shelf) c.no_memory.result c.no_memory.ensures
+    record {
+      runs = runs_unread kinds (job_of called words) (g.S.Shelf.world c.args.shelf.now) (g.S.Shelf.world c.no_memory.new.shelf) c.no_memory.result c.no_memory.ensures;
+      course = tells_unread _ (job_of called words) _ _ _ c.no_memory.result c.no_memory.ensures;
+    }

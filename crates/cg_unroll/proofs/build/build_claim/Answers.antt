@@ -358,7 +358,7 @@ returns-in_err-put_states-clause-failed c =
     subst (λ r. IfErr r (λ f. MayFail (question_run aig_values m q c.args.aig.now).domain f)) (sym is)
     (subst (λ u. MayFail (question_run aig_values m q u).domain fault) unchanged
     (states_fail_whole m good q fits reached c.requires.reached s start starts s1 nets0 lays0 fault
-    (subst (λ rs. (p : Question) → TellsFollows p.follows free rs → MayFail (lay_states aig_values m p nets own free rs (table_of s1 start.after.states)).domain fault) c.as_slice-2.ensures.parts c.in_err-put_states.ensures.failed)))
+    (subst (λ rs. (p : Question) → TellsFollows m p free rs → MayFail (lay_states aig_values m p nets own free rs (table_of s1 start.after.states)).domain fault) c.as_slice-2.ensures.parts c.in_err-put_states.ensures.failed)))
 
 pub returns-in_err-lay_copy-2-clause-failed : goal.returns-in_err-lay_copy-2-clause-failed
 returns-in_err-lay_copy-2-clause-failed c =

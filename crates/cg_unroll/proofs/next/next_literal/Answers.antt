@@ -11,7 +11,13 @@ use Rattle.cg_claim.proofs.WholeLists.{mux_run_grows}
 use Rattle.cg_unroll.specs.Building.{Built, MayFail}
 use Rattle.cg_unroll.proofs.Building.{built_then, fails_first, fails_then, if_err, if_ok}
 use Rattle.cg_unroll.proofs.Registers.{data_run, next_is}
+use Rattle.cg_unroll.proofs.StatesLaid.{if_some}
 use Rattle.cg_unroll.proofs.next.next_literal.Goals as goal
+
+pub loaded_literal-requires-clause-enable : goal.loaded_literal-requires-clause-enable
+loaded_literal-requires-clause-enable c =
+    if_some (λ e. e < length c.args.literals.now) c.enable.result
+    (λ e is. let below = (c.netlist-netlist.ensures.machine.enabled c.args.reg e (sym c.enable.ensures ∙ is)).below in omega (arith, below, c.requires.literals))
 
 pub loaded_literal-requires-clause-valid : goal.loaded_literal-requires-clause-valid
 loaded_literal-requires-clause-valid c =
@@ -45,7 +51,8 @@ returns-clause-built c =
     let is : v ≡ slice_index_or states r 0 = c.get-own.ensures ∙ ap (λ n. slice_index_or states n 0) c.number.ensures.number in
     let after : ℕ → Seen → Run = λ a u. mux_run aig_values (enable_of m r) nets a v u in
     if_ok _ _ c.loaded_literal.result (λ w h. subst (λ run. Built s c.loaded_literal.new.aig w run) (sym (next_is m nets (λ k. slice_index_or states k 0) r v s p.0 p.1 is))
-    (built_then s t c.loaded_literal.new.aig (data_run nets v p.0 s) c.in_ok-loaded.loaded w after (c.in_ok-loaded.ensures.built p.0 p.1) h)) c.loaded_literal.ensures.built
+    (built_then s t c.loaded_literal.new.aig (data_run nets v p.0 s) c.in_ok-loaded.loaded w after (c.in_ok-loaded.ensures.built p.0 p.1)
+    (subst (λ o. Built t c.loaded_literal.new.aig w (mux_run aig_values o nets c.in_ok-loaded.loaded v t)) c.enable.ensures h))) c.loaded_literal.ensures.built
 
 pub returns-clause-failed : goal.returns-clause-failed
 returns-clause-failed c =
@@ -60,7 +67,8 @@ returns-clause-failed c =
     let is : v ≡ slice_index_or states r 0 = c.get-own.ensures ∙ ap (λ n. slice_index_or states n 0) c.number.ensures.number in
     let after : ℕ → Seen → Run = λ a u. mux_run aig_values (enable_of m r) nets a v u in
     if_err _ _ c.loaded_literal.result (λ fault h. subst (λ (run : Run). MayFail run.domain fault) (sym (next_is m nets (λ k. slice_index_or states k 0) r v s p.0 p.1 is))
-    (fails_then s t (data_run nets v p.0 s) c.in_ok-loaded.loaded after fault (c.in_ok-loaded.ensures.built p.0 p.1) h)) c.loaded_literal.ensures.failed
+    (fails_then s t (data_run nets v p.0 s) c.in_ok-loaded.loaded after fault (c.in_ok-loaded.ensures.built p.0 p.1)
+    (subst (λ o. MayFail (mux_run aig_values o nets c.in_ok-loaded.loaded v t).domain fault) c.enable.ensures h))) c.loaded_literal.ensures.failed
 
 pub returns-in_err-loaded-clause-failed : goal.returns-in_err-loaded-clause-failed
 returns-in_err-loaded-clause-failed c =

@@ -3,22 +3,29 @@ use Rattle.std.specs.List.{flat_map, range_with_len}
 use Rattle.cg_machine.specs.Machine.{MachineData}
 use Rattle.cg_hint_laws.specs.Leaves.{leaves_at}
 use Rattle.cg_hint_laws.specs.Question.{Question}
-use Rattle.cg_hint_laws.specs.Reach.{asked_of}
 use Rattle.cg_unroll_cycles.specs.Asking.{question_of}
-use Rattle.cg_unroll_cycles.specs.declared.reached.CycleReach.{CycleReach}
-use Rattle.cg_unroll_cycles.specs.inner.Reached.{IsReachOf}
 use Rattle.cg_unroll_cycles.proofs.CycleLeaves.{first_then, later_pushed}
 use Rattle.cg_unroll_cycles.proofs.Reaching.{cycle_number}
 use Rattle.cg_unroll_cycles.proofs.leaves.leaves.Goals as goal
+
+pub push_cycle-requires : goal.push_cycle-requires
+push_cycle-requires c =
+    let m : MachineData = c.args.machine.now in
+    let q : Question = question_of c.args.question.now in
+    cycle_number m q c.args.cycles.now 0 c.cycle_at.result.now c.requires (omega arith) c.cycle_at.ensures
+
+pub push_cycle-requires-in-loop-before : goal.push_cycle-requires-in-loop-before
+push_cycle-requires-in-loop-before c =
+    let m : MachineData = c.args.machine.now in
+    let q : Question = question_of c.args.question.now in
+    let i : ℕ = c.loop-before.before in
+    cycle_number m q c.args.cycles.now (i + 1) c.cycle_at-cycle.result.now c.requires (omega (arith, c.loop-before-test.true)) c.cycle_at-cycle.ensures
 
 pub loop-before-preserved : goal.loop-before-preserved
 loop-before-preserved c =
     let m : MachineData = c.args.machine.now in
     let q : Question = question_of c.args.question.now in
-    let i : ℕ = c.loop-before.before in
-    let cycle : CycleReach = c.cycle_at-cycle.result.now in
-    let reached : IsReachOf m (asked_of m q (i + 1)) cycle = cycle_number m q c.args.cycles.now (i + 1) cycle c.requires (omega (arith, c.loop-before-test.true)) c.cycle_at-cycle.ensures in
-    later_pushed m q i cycle (leaves_at m q 0) c.loop-before.leaves.items c.push_inputs.new.leaves.items c.as_slice.result.now reached c.as_slice.ensures.parts c.in_ok-push_inputs.ensures c.loop-before.invariant
+    later_pushed m q c.loop-before.before (leaves_at m q 0) c.loop-before.leaves.items c.push_cycle-in-loop-before.new.leaves.items c.in_ok-push_cycle-2.ensures c.loop-before.invariant
 
 pub returns : goal.returns
 returns c =

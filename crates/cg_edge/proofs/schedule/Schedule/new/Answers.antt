@@ -1,3 +1,4 @@
+use Rattle.std.proofs.Common.{length, ap, arith}
 use Rattle.cg_edge.proofs.GaterOrder.{gater_chain}
 use Rattle.cg_edge.proofs.Laid.{order_cells}
 use Rattle.cg_edge.proofs.schedule.Schedule.new.Goals as goal
@@ -13,6 +14,8 @@ returns-clause-schedule c =
       chained = gater_chain c.args.netlist.now good.well_formed c.in_ok-chain.chain.items c.in_ok-chain.ensures;
       runs = c.in_ok-runs.ensures;
       wires = c.in_ok-wires.ensures;
+      controlled = c.in_ok-controlled.ensures;
+      line = λ some. c.in_ok-line.ensures (omega (arith, some, ap length c.deref.ensures.value));
       ordered = c.order-order.ensures.order;
       laid = c.in_ok-cells.ensures;
       reading = c.in_ok-readers.ensures;

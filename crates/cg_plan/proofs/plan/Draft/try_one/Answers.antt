@@ -14,9 +14,9 @@ returns-clause-leads c =
     let settings = c.args.rules.now.settings.now in
     let e : Draft = record d { machine = c.try_stage.new.machine; certificates = c.try_stage.new.into; judge = c.try_stage.new.self } in
     let done = c.in_ok-outcome.ensures.tried in
-    let count : c.in_ok-number.number ≡ 1 + length d.stages = omega (arith, c.in_ok-number.ensures, c.len.ensures.count) in
+    let count : c.args.number ≡ 1 + length d.stages = omega (arith, c.requires.number) in
     subst (Leads settings (λ p. try_one library settings p c.args.stage) d) (sym c.in_ok-keep.ensures)
-    (leads_one library settings d e c.in_ok-number.number c.args.stage c.in_ok-outcome.outcome
+    (leads_one library settings d e c.args.number c.args.stage c.in_ok-outcome.outcome
     (record { count = count; tells = done.outcome; machine = done.machine; stages = refl; earlier = refl; certificates = done.certificates; writable = done.writable }))
 
 pub returns-clause-rest : goal.returns-clause-rest

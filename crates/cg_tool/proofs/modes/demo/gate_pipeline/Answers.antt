@@ -23,4 +23,8 @@ returns g c =
     let p = c.args.pipeline in
     let P : RequestData → Type 0 = λ q. Concludes (option_map troubles.Limit (stops_at q p.netlist)) (PutsDemo c.args.size q p.netlist) c.gate_by-result.result in
     let W : Wanted → Type 0 = λ w. P (request_by p.library w (Some p.stimulus) None) in
-    subst W c.requires.wanted (subst P c.request-request.ensures c.gate_by-result.ensures)
+    record {
+      concludes = subst W c.requires.wanted (subst P c.request-request.ensures c.gate_by-result.ensures.concludes);
+      course = c.gate_by-result.ensures.course;
+      whole = c.gate_by-result.ensures.whole;
+    }

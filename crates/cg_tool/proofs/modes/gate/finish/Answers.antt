@@ -20,4 +20,8 @@ pub returns : goal.returns
 returns g c =
     let kind : Option Kind = option_map (λ w. (goal.Watcher-dyn g (w.vtable, w.value)).says w.value) c.args.watcher in
     let P : Option (Design Wanted) → Type 0 = λ o. Concludes (option_and_then design_stops o) (λ output. IsSomeAnd o (λ design. design_gives kind design output)) c.gate_design.result in
-    subst P (sym c.read.ensures) c.gate_design.ensures
+    record {
+      concludes = subst P (sym c.read.ensures) c.gate_design.ensures.concludes;
+      course = c.gate_design.ensures.course;
+      whole = c.gate_design.ensures.whole;
+    }

@@ -25,4 +25,8 @@ returns g c =
     let P : RequestData → Type 0 = λ q. Concludes (option_map gate_trouble (gating_stop q design.netlist)) (GatesAs kind q design.netlist) c.put_gated-result.result in
     let S : Option Rows → Type 0 = λ o. P (request_by design.library design.demand o (option_copied c.as_ref-told.result)) in
     let H : Option (List Hint) → Type 0 = λ h. P (request_by design.library design.demand design.stimulus h) in
-    subst H c.as_ref-told.ensures.value (subst S c.as_ref-rows.ensures.value (subst P c.request-request.ensures c.put_gated-result.ensures))
+    record {
+      concludes = subst H c.as_ref-told.ensures.value (subst S c.as_ref-rows.ensures.value (subst P c.request-request.ensures c.put_gated-result.ensures.concludes));
+      course = c.put_gated-result.ensures.course;
+      whole = c.put_gated-result.ensures.whole;
+    }

@@ -1,6 +1,7 @@
 use Rattle.std.proofs.Common.{List, Option, Ok, Err, ◌∙◌, ap, subst}
 use Rattle.std.specs.Option.{option_map}
 use Rattle.std.proofs.lemmas.Result.{err_from_is_err_and}
+use Rattle.cg_hold.proofs.Heard.{nothing_told}
 use Rattle.cg_run.specs.declared.role.Role.{Role}
 use Rattle.cg_run.specs.Names.{name_of}
 use Rattle.cg_run.specs.Reads.{Collects}
@@ -25,7 +26,11 @@ returns-in_err-found g c =
     let after = g.S.Shelf.world c.collect.new.shelf in
     let C : DesignFiles Wanted → Type 0 = λ start. Collects gate_takes names start c.design_files-files.result.now before after (Err c.in_err-found.field-0.0) in
     let L : List Role → Type 0 = λ files. Collects gate_takes names (gate_start options) files before after (Err c.in_err-found.field-0.0) in
-    rw (p.1, p.2) (reads_refused gate_takes gate_stops (gate_gives kind) names (gate_start options) files before after c.in_err-found.field-0.0 (subst L (c.design_files-files.ensures.files ∙ ap (λ b. design_loads b options.asked.hints) c.is_loaded-stimulus.ensures) (subst C c.start.ensures c.in_err-found.ensures)))
+    record {
+      reads = rw (p.1, p.2) (reads_refused gate_takes gate_stops (gate_gives kind) names (gate_start options) files before after c.in_err-found.field-0.0 (subst L (c.design_files-files.ensures.files ∙ ap (λ b. design_loads b options.asked.hints) c.is_loaded-stimulus.ensures) (subst C c.start.ensures c.in_err-found.ensures)));
+      course = nothing_told _;
+      whole = rw p.1 tt;
+    }
 
 pub finish-requires : goal.finish-requires
 finish-requires g c =
@@ -50,7 +55,11 @@ returns-in_err-finish g c =
     let after = g.S.Shelf.world c.collect.new.shelf in
     let C : DesignFiles Wanted → Type 0 = λ start. Collects gate_takes names start c.design_files-files.result.now before after (Ok c.in_ok-found.found) in
     let L : List Role → Type 0 = λ files. Collects gate_takes names (gate_start options) files before after (Ok c.in_ok-found.found) in
-    rw (p.1, p.2) (reads_concluded gate_takes gate_stops (gate_gives kind) names (gate_start options) files before after c.in_ok-found.found (Err c.in_err-finish.field-0.0) (subst L (c.design_files-files.ensures.files ∙ ap (λ b. design_loads b options.asked.hints) c.is_loaded-stimulus.ensures) (subst C c.start.ensures c.in_ok-found.ensures)) c.in_err-finish.ensures)
+    record {
+      reads = rw (p.1, p.2) (reads_concluded gate_takes gate_stops (gate_gives kind) names (gate_start options) files before after c.in_ok-found.found (Err c.in_err-finish.field-0.0) (subst L (c.design_files-files.ensures.files ∙ ap (λ b. design_loads b options.asked.hints) c.is_loaded-stimulus.ensures) (subst C c.start.ensures c.in_ok-found.ensures)) c.in_err-finish.ensures.concludes);
+      course = c.finish.ensures.course;
+      whole = rw p.1 tt;
+    }
 
 pub returns : goal.returns
 returns g c =
@@ -62,4 +71,8 @@ returns g c =
     let after = g.S.Shelf.world c.collect.new.shelf in
     let C : DesignFiles Wanted → Type 0 = λ start. Collects gate_takes names start c.design_files-files.result.now before after (Ok c.in_ok-found.found) in
     let L : List Role → Type 0 = λ files. Collects gate_takes names (gate_start options) files before after (Ok c.in_ok-found.found) in
-    reads_concluded gate_takes gate_stops (gate_gives kind) names (gate_start options) files before after c.in_ok-found.found (Ok c.in_ok-finish.field-0) (subst L (c.design_files-files.ensures.files ∙ ap (λ b. design_loads b options.asked.hints) c.is_loaded-stimulus.ensures) (subst C c.start.ensures c.in_ok-found.ensures)) c.in_ok-finish.ensures
+    record {
+      reads = reads_concluded gate_takes gate_stops (gate_gives kind) names (gate_start options) files before after c.in_ok-found.found (Ok c.in_ok-finish.field-0) (subst L (c.design_files-files.ensures.files ∙ ap (λ b. design_loads b options.asked.hints) c.is_loaded-stimulus.ensures) (subst C c.start.ensures c.in_ok-found.ensures)) c.in_ok-finish.ensures.concludes;
+      course = c.finish.ensures.course;
+      whole = c.in_ok-finish.ensures.whole;
+    }

@@ -11,6 +11,7 @@ use Rattle.cg_tool.specs.Gate.{gate_gives, gate_start, gate_stops, gate_takes, g
 use Rattle.cg_tool.specs.Gated.{IsGated}
 use Rattle.cg_tool.specs.Watching.{Kind}
 use Rattle.cg_tool.proofs.GateMeans.{gated_means}
+use Rattle.cg_tool.proofs.Telling.{tells_plan, tells_unbegun}
 use Rattle.cg_tool.proofs.modes.gate.run.Goals as goal
 
 pub returns-in-Ok : goal.returns-in-Ok
@@ -23,10 +24,11 @@ returns-in-Ok g c =
     let after = g.S.Shelf.world c.put_out.new.shelf in
     let task = gate_task options kind in
     let result = c.put_out.result in
-    let runs : Runs task names before after result = runs_of_halves gate_takes gate_stops (gate_gives kind) names (gate_start options) (design_loads (is_loaded options.asked.stimulus) options.asked.hints) before middle c.read-found.result after result c.read-found.ensures c.put_out.ensures.puts in
+    let runs : Runs task names before after result = runs_of_halves gate_takes gate_stops (gate_gives kind) names (gate_start options) (design_loads (is_loaded options.asked.stimulus) options.asked.hints) before middle c.read-found.result after result c.read-found.ensures.reads c.put_out.ensures.puts in
     record {
       runs = runs;
       gated = λ t. finish_map (λ finish. Finishes task names before after finish) (IsGated options kind names before after) result (gated_means options kind names before after) (finished_so task names before after result runs t);
+      course = tells_plan _ _ names c.read-found.result middle after result c.put_out.ensures.puts c.read-found.ensures.course c.read-found.ensures.whole;
     }
 
 pub returns-in-Err : goal.returns-in-Err
@@ -42,4 +44,5 @@ returns-in-Err g c =
     record {
       runs = runs;
       gated = λ t. finish_map (λ finish. Finishes task names before after finish) (IsGated options kind names before after) result (gated_means options kind names before after) (finished_so task names before after result runs t);
+      course = tells_unbegun _ _ before after result c.no_memory.ensures;
     }

@@ -1,0 +1,23 @@
+use Rattle.std.proofs.Common.{◌≡◌, ℕ, ◌<◌, [], List, Some, not, length, slice_get, refl, ◌∙◌, ap, arith}
+use Rattle.std.specs.List.{filter}
+use Rattle.std.proofs.lemmas.Option.{slice_get_read}
+use Rattle.cg_net.proofs.Members.{All-member, member_at}
+use Rattle.cg_claim.specs.Reach.{takes_next}
+use Rattle.cg_claim_reach.proofs.Filtering.{filter_on, take_whole}
+use Rattle.cg_claim_reach.proofs.sources.without_next.Goals as goal
+
+pub takes_next-next-requires : goal.takes_next-next-requires
+takes_next-next-requires c =
+    let rs : List ℕ = c.args.states.now in
+    let at : slice_get rs c.loop-reg.reg-index ≡ Some c.reg-item.result = slice_get_read rs _ c.loop-reg.reg-index c.reg-item.result refl c.loop-reg-test.true c.reg-item.is in
+    All-member (λ r. r < length c.args.machine.now.circuit.registers) rs c.reg-item.result c.requires (member_at rs c.loop-reg.reg-index c.reg-item.result at)
+
+pub loop-reg-preserved : goal.loop-reg-preserved
+loop-reg-preserved c = λ q known.
+    let rs : List ℕ = c.args.states.now in
+    let at : slice_get rs c.loop-reg.reg-index ≡ Some c.reg-item.result = slice_get_read rs _ c.loop-reg.reg-index c.reg-item.result refl c.loop-reg-test.true c.reg-item.is in
+    filter_on (λ r. not (takes_next c.args.machine.now q r)) rs [] c.loop-reg.some.items c.push_reg_if.new.regs.items c.loop-reg.reg-index c.reg-item.result _ at
+    (ap not (c.takes_next-next.ensures q (known c.reg-item.result))) c.in_ok-push_reg_if.ensures (c.loop-reg.invariant q known)
+
+pub returns : goal.returns
+returns c = λ q known. c.loop-reg.invariant q known ∙ ap (filter (λ r. not (takes_next c.args.machine.now q r))) (take_whole c.args.states.now c.loop-reg.reg-index (omega (arith, c.loop-reg-test.false)))

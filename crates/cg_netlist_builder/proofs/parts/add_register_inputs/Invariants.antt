@@ -1,6 +1,0 @@
-use Rattle.std.proofs.Common.{◌≡◌, ◌++◌, take}
-use Rattle.std.specs.List.{flat_map}
-use Rattle.cg_netlist_builder.proofs.parts.add_register_inputs.Given as goal
-
-abbrev pub invariant-loop-register : goal.invariant-loop-register
-invariant-loop-register l = l.nets.items ≡ l.fn.nets.items ++ flat_map (λ register. register.inputs) (take l.register-index l.registers)
